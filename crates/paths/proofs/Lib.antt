@@ -1,0 +1,5 @@
+-- The theory of weights, walks, trade-off lists, answers, routes, forests and cuts.
+pub mod Figures
+pub mod Weights
+pub mod Walks
+pub mod Covering

@@ -1,0 +1,40 @@
+-- Answers under a limit (document 01, "Words" and numbers 22 and 23).
+use mathlib.Core.Path.{_≡_}
+use mathlib.Core.List.{List}
+use Prim.Native.Nat.{ℕ}
+use Rattle.paths.specs.Figures.{Figures}
+use Rattle.paths.specs.Weights.{weights, Within, NotLater}
+use Rattle.paths.specs.Network.{Network, Walk, weight}
+use Rattle.paths.specs.TradeOff.{IsSum}
+
+module _ {𝓛 : Figures} (𝓝 : Network 𝓛) where
+  open Figures (weights 𝓛) using (Figure as Weight)
+
+  -- "The best answer under limit C is the pair with energy at most C and least time; equal times are decided by least energy."
+  pub record Best (s t : ℕ) (C : 𝓛 .Figure) (p : Weight) : Type 0 where
+    pub walk : Walk 𝓝 s t
+    pub weighs : weight walk ≡ p
+    pub within : Within 𝓛 C p
+    pub least : (other : Walk 𝓝 s t) → Within 𝓛 C (weight other) → NotLater 𝓛 p (weight other)
+
+  -- 23: "paths exist, none within C"
+  pub record Over (s t : ℕ) (C : 𝓛 .Figure) : Type 0 where
+    pub walk : Walk 𝓝 s t
+    pub none-within : (other : Walk 𝓝 s t) → Within 𝓛 C (weight other) → ⊥
+
+  -- 22: "no path at all"
+  abbrev pub Apart : ℕ → ℕ → Type 0
+  Apart s t = Walk 𝓝 s t → ⊥
+
+module _ (𝓛 : Figures) where
+  open Figures (weights 𝓛) using (Figure as Weight)
+
+  -- Limited join: "the best sum" of two lists under a limit
+  pub record BestSum (k l : List Weight) (C : 𝓛 .Figure) (p : Weight) : Type 0 where
+    pub sum : IsSum 𝓛 k l p
+    pub within : Within 𝓛 C p
+    pub least : (q : Weight) → IsSum 𝓛 k l q → Within 𝓛 C q → NotLater 𝓛 p q
+
+  -- Limited join's 23: "no sum within C"
+  abbrev pub NoSum : List Weight → List Weight → 𝓛 .Figure → Type 0
+  NoSum k l C = (p : Weight) → IsSum 𝓛 k l p → Within 𝓛 C p → ⊥

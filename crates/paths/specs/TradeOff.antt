@@ -1,0 +1,45 @@
+-- Trade-off lists and joins (document 01, "Words"; document 001: skyline paths).
+use mathlib.Core.Path.{_≡_}
+use mathlib.Core.List.{List, List·Memᴰ}
+use Prim.Native.Nat.{ℕ}
+use Rattle.paths.specs.Figures.{Figures}
+use Rattle.paths.specs.Weights.{weights, Beats, Rising}
+use Rattle.paths.specs.Network.{Network, Walk, weight}
+
+module _ {𝓛 : Figures} (𝓝 : Network 𝓛) where
+  open Figures (weights 𝓛) using (Figure as Weight)
+
+  -- "the pair of each path that no path's pair beats"
+  pub record Skyline (s t : ℕ) (p : Weight) : Type 0 where
+    pub walk : Walk 𝓝 s t
+    pub weighs : weight walk ≡ p
+    pub unbeaten : (other : Walk 𝓝 s t) → Beats 𝓛 (weight other) p → ⊥
+
+  -- "The trade-off list of s and t holds the pair of each path that no path's pair beats, each pair once, energy strictly
+  -- rising."
+  pub record IsTradeOff (s t : ℕ) (l : List Weight) : Type 0 where
+    pub rising : Rising 𝓛 l
+    pub real : {p : Weight} → List·Memᴰ p l → Skyline s t p
+    pub complete : {p : Weight} → Skyline s t p → List·Memᴰ p l
+
+module _ (𝓛 : Figures) where
+  open Figures (weights 𝓛) using (Figure as Weight, _⊕_)
+  infixl 60 _⊕_
+
+  -- A sum of an entry of k and an entry of l
+  pub record IsSum (k l : List Weight) (p : Weight) : Type 0 where
+    pub left : Weight
+    pub right : Weight
+    pub in-first : List·Memᴰ left k
+    pub in-second : List·Memᴰ right l
+    pub adds : left ⊕ right ≡ p
+
+  pub record UnbeatenSum (k l : List Weight) (p : Weight) : Type 0 where
+    pub sum : IsSum k l p
+    pub unbeaten : (q : Weight) → IsSum k l q → Beats 𝓛 q p → ⊥
+
+  -- "The join of two lists holds the unbeaten sums, each once, in the same order."
+  pub record IsJoin (k l r : List Weight) : Type 0 where
+    pub rising : Rising 𝓛 r
+    pub real : {p : Weight} → List·Memᴰ p r → UnbeatenSum k l p
+    pub complete : {p : Weight} → UnbeatenSum k l p → List·Memᴰ p r

@@ -1,0 +1,55 @@
+-- Weights: a road's or a path's time together with its limited figures (document 01, "Words, and where they come from").
+use mathlib.Core.Path.{_≡_}
+use mathlib.Core.List.{List, [], _∷_}
+use Prim.Native.Nat.{ℕ, _<_}
+use Rattle.paths.specs.Figures.{Figures, number, Both, _and_}
+
+-- The weights over limited figures 𝓛: listed by 𝓛's order and then by time, as document 01 lists pairs by energy
+abbrev pub weights : Figures → Figures
+weights 𝓛 = 𝓛 and number
+
+-- One limited figure: document 01's energy
+abbrev pub energy : Figures
+energy = number
+
+-- Document 01's pair (time, energy)
+abbrev pub pair : ℕ → ℕ → weights energy .Figure
+pair t e = record { first = e; second = t }
+
+module _ (𝓛 : Figures) where
+  open Figures (weights 𝓛) using (Figure as Weight, _⊑_, _≺_)
+  infix 40 _⊑_
+  infix 40 _≺_
+
+  -- The sum of times
+  abbrev pub time : Weight → ℕ
+  time p = p .second
+
+  -- What counts against a limit: the sum of energies
+  abbrev pub spent : Weight → 𝓛 .Figure
+  spent p = p .first
+
+  -- "Pair p beats q if p is no larger in both numbers and smaller in one."
+  pub record Beats (p q : Weight) : Type 0 where
+    pub no-larger : p ⊑ q
+    pub smaller : p ≡ q → ⊥
+
+  -- "energy at most C"
+  abbrev pub Within : 𝓛 .Figure → Weight → Type 0
+  Within C p = 𝓛 ._⊑_ (spent p) C
+
+  -- "least time; equal times are decided by least energy": p comes before q as an answer
+  pub data Sooner (p q : Weight) : Type 0 where
+    by-time : time p < time q → Sooner p q
+    by-figures : time p ≡ time q → 𝓛 ._≺_ (spent p) (spent q) → Sooner p q
+
+  -- As an answer q does not come before p
+  pub data NotLater (p q : Weight) : Type 0 where
+    sooner : Sooner p q → NotLater p q
+    same : p ≡ q → NotLater p q
+
+  -- "each pair once, energy strictly rising": each entry stands earlier than the next
+  pub data Rising : List Weight → Type 0 where
+    none : Rising []
+    one : {p : Weight} → Rising (p ∷ [])
+    more : {p q : Weight} {l : List Weight} → p ≺ q → Rising (q ∷ l) → Rising (p ∷ q ∷ l)

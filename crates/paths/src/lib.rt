@@ -1,0 +1,2 @@
+// Units.
+pub struct Seconds(pub u32);
