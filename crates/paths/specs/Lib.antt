@@ -7,3 +7,4 @@ pub mod Answer
 pub mod Route
 pub mod Forest
 pub mod Cut
+pub mod Examples
