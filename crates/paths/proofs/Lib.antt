@@ -3,3 +3,5 @@ pub mod Figures
 pub mod Weights
 pub mod Walks
 pub mod Covering
+pub mod Unique
+pub mod Local

@@ -1,12 +1,11 @@
 -- Laws of weights: of sums and orders, of beating, of the order of answers.
--- In this order: weights are lawful; equality is decided; sums; beating; answers; rising lists.
-use mathlib.Core.Path.{_≡_, refl, sym, ap, ap₂, _∙_}
+-- In this order: weights are lawful; equality is decided; sums; beating; answers.
+use mathlib.Core.Path.{_≡_, refl, sym, ap, _∙_, subst}
 use mathlib.Core.Logic.{_⊎_, inl, inr, ⊎-elim}
-use mathlib.Core.List.{List, [], _∷_, List·Memᴰ, List·Memᴰ·head, List·Memᴰ·tail, List·Memᴰ·cases-cons, List·Memᴰ·not-nil}
 use Prim.Native.Nat.{ℕ, _+_, _≤_, _<_}
 use native.Mathlib.Omega.{arith}
 use Rattle.paths.specs.Figures.{Figures, number, FirstThenSecond, by-first, by-second, _and_, Lawful}
-use Rattle.paths.specs.Weights.{weights, time, spent, Beats, Within, Sooner, by-time, by-figures, NotLater, sooner, same, Rising, none, one, more}
+use Rattle.paths.specs.Weights.{weights, time, spent, Beats, Within, Sooner, by-time, by-figures, NotLater, sooner, same}
 use Rattle.paths.proofs.Figures.{number-lawful, and-lawful}
 
 pub weights-lawful : {𝓛 : Figures} → Lawful 𝓛 → Lawful (weights 𝓛)
@@ -86,6 +85,10 @@ module _ {𝓛 : Figures} (lawful : Lawful 𝓛) where
         no-larger = W .⊑-trans h (b .no-larger);
         smaller = λ e. b .smaller (W .⊑-antisym (b .no-larger) (W .⊑-trans (⊑-of-eq W (sym e)) h))
       }
+
+  -- beating speaks of the weights, however they are written
+  pub beats-cast : {p q p′ q′ : Weight} → p′ ≡ p → Beats 𝓛 p q → q ≡ q′ → Beats 𝓛 p′ q′
+  beats-cast {p′ = p′} e b f = subst (λ z. Beats 𝓛 p′ z) f (rw e b)
 
   -- a beaten part makes a beaten sum
   pub beats-sum-right : (c : Weight) {p q : Weight} → Beats 𝓛 p q → Beats 𝓛 (c ⊕ p) (c ⊕ q)
