@@ -5,3 +5,5 @@ pub mod Walks
 pub mod Covering
 pub mod Unique
 pub mod Local
+pub mod Answers
+pub mod Cuts

@@ -1,0 +1,142 @@
+-- What a trade-off list says of limited queries: the best answer is an entry, and exactly one of the three answers holds.
+-- In this order: a best answer is unbeaten; answers by a list; exactly one outcome.
+use mathlib.Core.Path.{_≡_, refl, sym, ap, _∙_}
+use mathlib.Core.Logic.{_⊎_, inl, inr, ⊎-elim}
+use mathlib.Core.List.{List, [], _∷_, List·Memᴰ, List·Memᴰ·head, List·Memᴰ·tail, List·Memᴰ·cases-cons, List·Memᴰ·not-nil}
+use Prim.Native.Nat.{ℕ}
+use Rattle.paths.specs.Figures.{Figures, Lawful}
+use Rattle.paths.specs.Weights.{weights, spent, Within, NotLater, same, sooner}
+use Rattle.paths.specs.Network.{Network, Walk, weight}
+use Rattle.paths.specs.TradeOff.{Skyline, IsTradeOff}
+use Rattle.paths.specs.Answer.{Best, Over, Apart}
+use Rattle.paths.proofs.Weights.{weights-lawful, ⊑-of-eq, ⊑-notLater, notLater-antisym, notLater-trans, compare-answers}
+use Rattle.paths.proofs.Covering.{TradeOffs, walk-covered}
+
+module _ (𝓛 : Figures) where
+  -- the entry of l that is the best within C
+  pub record BestEntry (l : List (weights 𝓛 .Figure)) (C : 𝓛 .Figure) (p : weights 𝓛 .Figure) : Type 0 where
+    pub member : List·Memᴰ p l
+    pub within : Within 𝓛 C p
+    pub least : {q : weights 𝓛 .Figure} → List·Memᴰ q l → Within 𝓛 C q → NotLater 𝓛 p q
+
+  -- some entry is the best within C, or none is within C
+  pub data Searched (l : List (weights 𝓛 .Figure)) (C : 𝓛 .Figure) : Type 0 where
+    found : {p : weights 𝓛 .Figure} → BestEntry l C p → Searched l C
+    none-within : ((q : weights 𝓛 .Figure) → List·Memᴰ q l → Within 𝓛 C q → ⊥) → Searched l C
+
+module _ {𝓛 : Figures} (𝓝 : Network 𝓛) where
+  -- "Over the limit" and "not connected" are the only ways to have no best answer
+  pub data Outcome (s t : ℕ) (C : 𝓛 .Figure) : Type 0 where
+    answered : {p : weights 𝓛 .Figure} → Best 𝓝 s t C p → Outcome s t C
+    over : Over 𝓝 s t C → Outcome s t C
+    apart : Apart 𝓝 s t → Outcome s t C
+
+  pub record Answered (s t : ℕ) (C : 𝓛 .Figure) : Type 0 where
+    pub weighs : weights 𝓛 .Figure
+    pub best : Best 𝓝 s t C weighs
+
+module _ {𝓛 : Figures} (lawful : Lawful 𝓛) where
+  abbrev W : Lawful (weights 𝓛)
+  W = weights-lawful lawful
+  open Figures (weights 𝓛) using (Figure as Weight)
+
+  pub search-list : (l : List Weight) (C : 𝓛 .Figure) → Searched 𝓛 l C
+  search-list [] C = none-within (λ q m h. List·Memᴰ·not-nil m)
+  search-list (x ∷ l) C = pick (lawful .⊑-decide (spent 𝓛 x) C) (search-list l C)
+    where
+      alone : Within 𝓛 C x → ((q : Weight) → List·Memᴰ q l → Within 𝓛 C q → ⊥) → BestEntry 𝓛 (x ∷ l) C x
+      alone h none =
+          record {
+            member = List·Memᴰ·head refl;
+            within = h;
+            least = λ {q} m k. ⊎-elim (λ e. same (sym e)) (λ m′. absurd (none q m′ k)) (List·Memᴰ·cases-cons m)
+          }
+
+      ahead : {p : Weight} → Within 𝓛 C x → BestEntry 𝓛 l C p → NotLater 𝓛 x p → BestEntry 𝓛 (x ∷ l) C x
+      ahead h b first =
+          record {
+            member = List·Memᴰ·head refl;
+            within = h;
+            least = λ {q} m k. ⊎-elim (λ e. same (sym e)) (λ m′. notLater-trans lawful first (b .least m′ k)) (List·Memᴰ·cases-cons m)
+          }
+
+      behind : {p : Weight} → BestEntry 𝓛 l C p → (Within 𝓛 C x → NotLater 𝓛 p x) → BestEntry 𝓛 (x ∷ l) C p
+      behind {p} b first =
+          record {
+            member = List·Memᴰ·tail (b .member);
+            within = b .within;
+            least = λ {q} m k. ⊎-elim (λ e. rw e (first (rw e at k))) (λ m′. b .least m′ k) (List·Memᴰ·cases-cons m)
+          }
+
+      nothing : (Within 𝓛 C x → ⊥) → ((q : Weight) → List·Memᴰ q l → Within 𝓛 C q → ⊥) → (q : Weight) → List·Memᴰ q (x ∷ l) → Within 𝓛 C q → ⊥
+      nothing out none q m k = ⊎-elim (λ e. out (rw e at k)) (λ m′. none q m′ k) (List·Memᴰ·cases-cons m)
+
+      pick : Dec (Within 𝓛 C x) → Searched 𝓛 l C → Searched 𝓛 (x ∷ l) C
+      pick (yes h) (none-within none) = found (alone h none)
+      pick (no h) (none-within none) = none-within (nothing h none)
+      pick (no h) (found b) = found (behind b (λ k. absurd (h k)))
+      pick (yes h) (found {p} b) = ⊎-elim (λ f. found (ahead h b f)) (λ f. found (behind b (λ k. sooner f))) (compare-answers lawful x p)
+
+  module _ {𝓝 : Network 𝓛} {s t : ℕ} {C : 𝓛 .Figure} where
+    -- what beats an answer is within the limit too, and not later
+    pub best-is-skyline : {p : Weight} → Best 𝓝 s t C p → Skyline 𝓝 s t p
+    best-is-skyline {p} best =
+        record {
+          walk = best .walk;
+          weighs = best .weighs;
+          unbeaten = λ other b. b .smaller (sym (notLater-antisym lawful (best .least other (lawful .⊑-trans (b .no-larger .0) (best .within))) (⊑-notLater lawful (b .no-larger))))
+        }
+
+    module _ {l : List Weight} (right : IsTradeOff 𝓝 s t l) where
+      -- The best answer under C is the best entry of the trade-off list
+      pub best-is-entry : {p : Weight} → Best 𝓝 s t C p → BestEntry 𝓛 l C p
+      best-is-entry {p} best =
+          record {
+            member = right .complete (best-is-skyline best);
+            within = best .within;
+            least = λ {q} m k. let z = right .real m in rw (z .weighs) at (best .least (z .walk) (rw (z .weighs) k))
+          }
+
+      pub entry-is-best : {p : Weight} → BestEntry 𝓛 l C p → Best 𝓝 s t C p
+      entry-is-best {p} b =
+          let z = right .real (b .member) in
+          record { walk = z .walk; weighs = z .weighs; within = b .within; least = least }
+        where
+          least : (other : Walk 𝓝 s t) → Within 𝓛 C (weight other) → NotLater 𝓛 p (weight other)
+          least other k =
+              let c = walk-covered lawful right other in
+              notLater-trans lawful (b .least (c .member) (lawful .⊑-trans (c .has .0) k)) (⊑-notLater lawful (c .has))
+
+      -- no entry within C, no walk within C
+      pub none-within-list : ((q : Weight) → List·Memᴰ q l → Within 𝓛 C q → ⊥) → (other : Walk 𝓝 s t) → Within 𝓛 C (weight other) → ⊥
+      none-within-list none other k =
+          let c = walk-covered lawful right other in none (c .entry) (c .member) (lawful .⊑-trans (c .has .0) k)
+
+    -- For all s, t, C one of the three holds
+    pub outcome : TradeOffs 𝓝 s t → Outcome 𝓝 s t C
+    outcome lists = pick (lists .list) (lists .is-tradeOff) (search-list (lists .list) C)
+      where
+        pick : (l : List Weight) → IsTradeOff 𝓝 s t l → Searched 𝓛 l C → Outcome 𝓝 s t C
+        pick l right (found b) = answered (entry-is-best right b)
+        pick [] right (none-within none) = apart (λ w. List·Memᴰ·not-nil (walk-covered lawful right w .member))
+        pick (x ∷ l) right (none-within none) =
+            over (record { walk = right .real (List·Memᴰ·head refl) .walk; none-within = none-within-list right none })
+
+    -- and no two of them hold
+    pub best-not-over : {p : Weight} → Best 𝓝 s t C p → Over 𝓝 s t C → ⊥
+    best-not-over best no-way = no-way .none-within (best .walk) (rw (best .weighs) (best .within))
+
+    pub best-not-apart : {p : Weight} → Best 𝓝 s t C p → Apart 𝓝 s t → ⊥
+    best-not-apart best none = none (best .walk)
+
+    pub over-not-apart : Over 𝓝 s t C → Apart 𝓝 s t → ⊥
+    over-not-apart no-way none = none (no-way .walk)
+
+  -- a walk within the limit has a best answer beside it
+  pub best-exists : {𝓝 : Network 𝓛} {s t : ℕ} {C : 𝓛 .Figure} → TradeOffs 𝓝 s t → (w : Walk 𝓝 s t) → Within 𝓛 C (weight w) → Answered 𝓝 s t C
+  best-exists {𝓝} {s} {t} {C} lists w h = pick (outcome lists)
+    where
+      pick : Outcome 𝓝 s t C → Answered 𝓝 s t C
+      pick (answered b) = record { weighs = _; best = b }
+      pick (over no-way) = absurd (no-way .none-within w h)
+      pick (apart none) = absurd (none w)
