@@ -38,6 +38,7 @@ module _ {𝓛 : Figures} (𝓝 : Network 𝓛) where
 module _ {𝓛 : Figures} (lawful : Lawful 𝓛) where
   abbrev W : Lawful (weights 𝓛)
   W = weights-lawful lawful
+
   open Figures (weights 𝓛) using (Figure as Weight)
 
   pub search-list : (l : List Weight) (C : 𝓛 .Figure) → Searched 𝓛 l C
@@ -49,7 +50,7 @@ module _ {𝓛 : Figures} (lawful : Lawful 𝓛) where
           record {
             member = List·Memᴰ·head refl;
             within = h;
-            least = λ {q} m k. ⊎-elim (λ e. same (sym e)) (λ m′. absurd (none q m′ k)) (List·Memᴰ·cases-cons m)
+            least = λ {q} m k. ⊎-elim (λ e. same (sym e)) (λ m′. absurd (none q m′ k)) (List·Memᴰ·cases-cons m);
           }
 
       ahead : {p : Weight} → Within 𝓛 C x → BestEntry 𝓛 l C p → NotLater 𝓛 x p → BestEntry 𝓛 (x ∷ l) C x
@@ -57,7 +58,7 @@ module _ {𝓛 : Figures} (lawful : Lawful 𝓛) where
           record {
             member = List·Memᴰ·head refl;
             within = h;
-            least = λ {q} m k. ⊎-elim (λ e. same (sym e)) (λ m′. notLater-trans lawful first (b .least m′ k)) (List·Memᴰ·cases-cons m)
+            least = λ {q} m k. ⊎-elim (λ e. same (sym e)) (λ m′. notLater-trans lawful first (b .least m′ k)) (List·Memᴰ·cases-cons m);
           }
 
       behind : {p : Weight} → BestEntry 𝓛 l C p → (Within 𝓛 C x → NotLater 𝓛 p x) → BestEntry 𝓛 (x ∷ l) C p
@@ -65,7 +66,7 @@ module _ {𝓛 : Figures} (lawful : Lawful 𝓛) where
           record {
             member = List·Memᴰ·tail (b .member);
             within = b .within;
-            least = λ {q} m k. ⊎-elim (λ e. rw e (first (rw e at k))) (λ m′. b .least m′ k) (List·Memᴰ·cases-cons m)
+            least = λ {q} m k. ⊎-elim (λ e. rw e (first (rw e at k))) (λ m′. b .least m′ k) (List·Memᴰ·cases-cons m);
           }
 
       nothing : (Within 𝓛 C x → ⊥) → ((q : Weight) → List·Memᴰ q l → Within 𝓛 C q → ⊥) → (q : Weight) → List·Memᴰ q (x ∷ l) → Within 𝓛 C q → ⊥
@@ -84,7 +85,7 @@ module _ {𝓛 : Figures} (lawful : Lawful 𝓛) where
         record {
           walk = best .walk;
           weighs = best .weighs;
-          unbeaten = λ other b. b .smaller (sym (notLater-antisym lawful (best .least other (lawful .⊑-trans (b .no-larger .0) (best .within))) (⊑-notLater lawful (b .no-larger))))
+          unbeaten = λ other b. b .smaller (sym (notLater-antisym lawful (best .least other (lawful .⊑-trans (b .no-larger .0) (best .within))) (⊑-notLater lawful (b .no-larger))));
         }
 
     module _ {l : List Weight} (right : IsTradeOff 𝓝 s t l) where
@@ -94,7 +95,7 @@ module _ {𝓛 : Figures} (lawful : Lawful 𝓛) where
           record {
             member = right .complete (best-is-skyline best);
             within = best .within;
-            least = λ {q} m k. let z = right .real m in rw (z .weighs) at (best .least (z .walk) (rw (z .weighs) k))
+            least = λ {q} m k. let z = right .real m in rw (z .weighs) at (best .least (z .walk) (rw (z .weighs) k));
           }
 
       pub entry-is-best : {p : Weight} → BestEntry 𝓛 l C p → Best 𝓝 s t C p

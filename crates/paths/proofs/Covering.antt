@@ -66,7 +66,7 @@ module _ {𝓛 : Figures} (lawful : Lawful 𝓛) where
                 record {
                   walk = k;
                   weighs = refl;
-                  unbeaten = λ other b. bare (covered-more (below other (omega (arith, weights-lawful lawful .size-falls (b .no-larger) (b .smaller)))) (b .no-larger))
+                  unbeaten = λ other b. bare (covered-more (below other (omega (arith, weights-lawful lawful .size-falls (b .no-larger) (b .smaller)))) (b .no-larger));
                 }
 
             pick : Below → Dec (Covered 𝓛 l (weight k)) → Covered 𝓛 l (weight k)

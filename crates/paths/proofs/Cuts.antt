@@ -24,10 +24,11 @@ record LegsBeside {𝓛 : Figures} {𝓝 : Network 𝓛} (H : ℕ → Type 0) (C
 module _ {𝓛 : Figures} (lawful : Lawful 𝓛) where
   abbrev W : Lawful (weights 𝓛)
   W = weights-lawful lawful
+
   open Figures (weights 𝓛) using (Figure as Weight, _⊕_, _⊑_)
+
   infixl 60 _⊕_
   infix 40 _⊑_
-
   module _ {𝓝 : Network 𝓛} {H : ℕ → Type 0} {s t : ℕ} (cut : IsCut 𝓝 H s t) where
     -- Theorem 2: over a cut every skyline weight is a sum of two skyline weights that meet there
     pub skyline-is-sum : {p : Weight} → Skyline 𝓝 s t p → SkylineSum 𝓝 H s t p
@@ -43,20 +44,20 @@ module _ {𝓛 : Figures} (lawful : Lawful 𝓛) where
           second = weight (z .after);
           first-skyline = before-unbeaten lawful (z .before) (z .after) unbeaten;
           second-skyline = after-unbeaten lawful (z .before) (z .after) unbeaten;
-          adds = split-weighs lawful z ∙ sky .weighs
+          adds = split-weighs lawful z ∙ sky .weighs;
         }
 
     -- Theorem 3: a sum of two skyline weights that no such sum beats is a skyline weight
     pub unbeaten-sum-is-skyline :
-      TradeOffs 𝓝 s t → {p : Weight} → SkylineSum 𝓝 H s t p → ((q : Weight) → SkylineSum 𝓝 H s t q → Beats 𝓛 q p → ⊥) → Skyline 𝓝 s t p
+        TradeOffs 𝓝 s t → {p : Weight} → SkylineSum 𝓝 H s t p → ((q : Weight) → SkylineSum 𝓝 H s t q → Beats 𝓛 q p → ⊥) → Skyline 𝓝 s t p
     unbeaten-sum-is-skyline lists {p} sum unbeaten =
         record {
           walk = sum .first-skyline .walk then sum .second-skyline .walk;
           weighs =
-            weight-then lawful (sum .first-skyline .walk) (sum .second-skyline .walk)
-            ∙ ap₂ _⊕_ (sum .first-skyline .weighs) (sum .second-skyline .weighs)
-            ∙ sum .adds;
-          unbeaten = λ other b. let c = walk-covered lawful (lists .is-tradeOff) other in unbeaten (c .entry) (skyline-is-sum (lists .is-tradeOff .real (c .member))) (⊑-then-beats lawful (c .has) b)
+              weight-then lawful (sum .first-skyline .walk) (sum .second-skyline .walk)
+              ∙ ap₂ _⊕_ (sum .first-skyline .weighs) (sum .second-skyline .weighs)
+              ∙ sum .adds;
+          unbeaten = λ other b. let c = walk-covered lawful (lists .is-tradeOff) other in unbeaten (c .entry) (skyline-is-sum (lists .is-tradeOff .real (c .member))) (⊑-then-beats lawful (c .has) b);
         }
 
   module _ {𝓝 : Network 𝓛} {H : ℕ → Type 0} {s t : ℕ} {C : 𝓛 .Figure} where
@@ -91,22 +92,22 @@ module _ {𝓛 : Figures} (lawful : Lawful 𝓛) where
           record {
             total = one .weighs ⊕ two .weighs;
             legs =
-              record {
-                at = met .at;
-                inside = met .inside;
-                first-limit = e₁;
-                second-limit = lawful .left part;
-                cuts = lawful .left-adds part;
-                first = one .weighs;
-                second = two .weighs;
-                first-leg = one .best;
-                second-leg = two .best;
-                adds = refl
-              };
+                record {
+                  at = met .at;
+                  inside = met .inside;
+                  first-limit = e₁;
+                  second-limit = lawful .left part;
+                  cuts = lawful .left-adds part;
+                  first = one .weighs;
+                  second = two .weighs;
+                  first-leg = one .best;
+                  second-leg = two .best;
+                  adds = refl;
+                };
             not-later =
-              notLater-trans lawful
-              (notLater-sum lawful (one .best .least (z .before) (lawful .⊑-refl e₁)) (two .best .least (z .after) rest))
-              (notLater-of-eq lawful e)
+                notLater-trans lawful
+                (notLater-sum lawful (one .best .least (z .before) (lawful .⊑-refl e₁)) (two .best .least (z .after) rest))
+                (notLater-of-eq lawful e);
           }
 
       -- Demand 3: the best total of two answered legs is the best answer
@@ -116,7 +117,7 @@ module _ {𝓛 : Figures} (lawful : Lawful 𝓛) where
             walk = legs-walk (b .legs);
             weighs = legs-weigh (b .legs);
             within = legs-within (b .legs);
-            least = λ other h. let z = legs-beside other h in notLater-trans lawful (b .least (z .total) (z .legs)) (z .not-later)
+            least = λ other h. let z = legs-beside other h in notLater-trans lawful (b .least (z .total) (z .legs)) (z .not-later);
           }
 
       -- Demand 3: the best answer is the best total of two answered legs
@@ -134,6 +135,7 @@ module _ {𝓛 : Figures} (lawful : Lawful 𝓛) where
 
       -- Demand 3: "where no junction and cut give two answered legs, it is refused"
       pub demand3-refused : ((p : Weight) → Best 𝓝 s t C p → ⊥) ↔ ((p : Weight) → Legs 𝓝 H s t C p → ⊥)
-      demand3-refused =
-          ((λ none p legs. let z = best-exists lawful {C = C} (lists s t) (legs-walk legs) (rw (legs-weigh legs) (legs-within legs)) in none (z .weighs) (z .best)),
-           λ none p best. let z = legs-beside (best .walk) (rw (best .weighs) (best .within)) in none (z .total) (z .legs))
+      demand3-refused = (
+        (λ none p legs. let z = best-exists lawful {C = C} (lists s t) (legs-walk legs) (rw (legs-weigh legs) (legs-within legs)) in none (z .weighs) (z .best)),
+        λ none p best. let z = legs-beside (best .walk) (rw (best .weighs) (best .within)) in none (z .total) (z .legs),
+      )

@@ -37,7 +37,7 @@ number-lawful =
       ≺-mono = λ c h. omega arith;
       ⊑-earlier = λ h n. omega arith;
       size = λ a. a;
-      size-falls = λ h n. omega arith
+      size-falls = λ h n. omega arith;
     }
 
 size-below : {𝓒 : Figures} (K : Lawful 𝓒) {a b : 𝓒 .Figure} → 𝓒 ._⊑_ a b → K .size a ≤ K .size b
@@ -84,9 +84,9 @@ module _ {𝓐 𝓑 : Figures} (A : Lawful 𝓐) (B : Lawful 𝓑) where
   compare-both p q = pick (A .≺-compare (p .first) (q .first)) (B .≺-compare (p .second) (q .second))
     where
       pick :
-        (𝓐 ._≺_ (p .first) (q .first)) ⊎ ((p .first ≡ q .first) ⊎ (𝓐 ._≺_ (q .first) (p .first))) →
-        (𝓑 ._≺_ (p .second) (q .second)) ⊎ ((p .second ≡ q .second) ⊎ (𝓑 ._≺_ (q .second) (p .second))) →
-        FirstThenSecond 𝓐 𝓑 p q ⊎ ((p ≡ q) ⊎ FirstThenSecond 𝓐 𝓑 q p)
+          (𝓐 ._≺_ (p .first) (q .first)) ⊎ ((p .first ≡ q .first) ⊎ (𝓐 ._≺_ (q .first) (p .first))) →
+          (𝓑 ._≺_ (p .second) (q .second)) ⊎ ((p .second ≡ q .second) ⊎ (𝓑 ._≺_ (q .second) (p .second))) →
+          FirstThenSecond 𝓐 𝓑 p q ⊎ ((p ≡ q) ⊎ FirstThenSecond 𝓐 𝓑 q p)
       pick (inl h) k = inl (by-first h)
       pick (inr (inl e)) (inl k) = inl (by-second e k)
       pick (inr (inl e)) (inr (inl f)) = inr (inl (both-path e f))
@@ -131,5 +131,5 @@ module _ {𝓐 𝓑 : Figures} (A : Lawful 𝓐) (B : Lawful 𝓑) where
         ≺-mono = mono-both;
         ⊑-earlier = earlier-both;
         size = λ p. A .size (p .first) + B .size (p .second);
-        size-falls = falls-both
+        size-falls = falls-both;
       }

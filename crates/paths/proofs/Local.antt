@@ -13,7 +13,7 @@ use Rattle.paths.specs.Weights.{weights, time, Beats, Rising, one}
 use Rattle.paths.specs.Network.{Network, Walk, stay, go, weight}
 use Rattle.paths.specs.TradeOff.{Skyline, IsTradeOff}
 use Rattle.paths.proofs.Weights.{weights-lawful, ⊑-of-eq, unbeaten-below, ⊑-then-beats, ⊕-mono-right, beats-sum-right, beats-cast}
-use Rattle.paths.proofs.Walks.{_then_, arcs, single, Last, last, weight-then, weight-one, last-weighs}
+use Rattle.paths.proofs.Walks.{WalkOf, _then_, arcs, single, Last, last, weight-then, weight-one, last-weighs}
 use Rattle.paths.proofs.Covering.{Covered, covered-more, walk-covered}
 
 -- the end at which a walk is taken apart
@@ -22,8 +22,8 @@ pub data Side : Type 0 where
 
 module _ {𝓛 : Figures} (𝓝 : Network 𝓛) where
   open Figures (weights 𝓛) using (Figure as Weight, _⊕_, 𝟘)
-  infixl 60 _⊕_
 
+  infixl 60 _⊕_
   -- an arc of weight w at one side of walks from s to t; what is left goes from x to y
   pub data Peel (side : Side) (s t x y : ℕ) (w : Weight) : Type 0 where
     first : {r : ℕ} → side ≡ start → y ≡ t → 𝓝 .Arc s x r w → Peel side s t x y w
@@ -61,11 +61,6 @@ module _ {𝓛 : Figures} (𝓝 : Network 𝓛) where
   pub record AllTradeOffs (P : ℕ → ℕ → Type 0) (L : ℕ → ℕ → List Weight) : Type 0 where
     pub right : {s t : ℕ} → P s t → IsTradeOff 𝓝 s t (L s t)
 
-  -- a walk of a given weight
-  pub record WalkOf (s t : ℕ) (p : Weight) : Type 0 where
-    pub walk : Walk 𝓝 s t
-    pub weighs : weight walk ≡ p
-
   -- a walk of one arc or more, with the arc at a side taken off
   record Peeled (side : Side) {s t : ℕ} (k : Walk 𝓝 s t) : Type 0 where
     from : ℕ
@@ -79,10 +74,11 @@ module _ {𝓛 : Figures} (𝓝 : Network 𝓛) where
 module _ {𝓛 : Figures} (lawful : Lawful 𝓛) where
   abbrev W : Lawful (weights 𝓛)
   W = weights-lawful lawful
+
   open Figures (weights 𝓛) using (Figure as Weight, _⊕_, 𝟘, _⊑_)
+
   infixl 60 _⊕_
   infix 40 _⊑_
-
   module _ (𝓝 : Network 𝓛) where
     -- an arc put back on a walk
     attach : {side : Side} {s t x y : ℕ} {w : Weight} → Peel 𝓝 side s t x y w → (k : Walk 𝓝 x y) → WalkOf 𝓝 s t (w ⊕ weight k)
@@ -91,9 +87,9 @@ module _ {𝓛 : Figures} (lawful : Lawful 𝓛) where
     attach {t = t} {w = w} (last-one e f a) k =
         subst (λ z. WalkOf 𝓝 z t (w ⊕ weight k)) f
         (record {
-           walk = k then single 𝓝 a;
-           weighs = weight-then lawful k (single 𝓝 a) ∙ ap (λ z. weight k ⊕ z) (weight-one lawful 𝓝 a) ∙ W .⊕-comm (weight k) w
-         })
+          walk = k then single 𝓝 a;
+          weighs = weight-then lawful k (single 𝓝 a) ∙ ap (λ z. weight k ⊕ z) (weight-one lawful 𝓝 a) ∙ W .⊕-comm (weight k) w;
+        })
 
     -- a walk between different junctions has an arc at either side
     peeled : (side : Side) {s t : ℕ} (k : Walk 𝓝 s t) → (s ≡ t → ⊥) → Peeled 𝓝 side k
@@ -110,7 +106,7 @@ module _ {𝓛 : Figures} (lawful : Lawful 𝓛) where
           peel = last-one refl refl (z .arc);
           rest = z .front;
           adds = W .⊕-comm (z .weighs) (weight (z .front)) ∙ last-weighs lawful z;
-          shorter = z .shorter
+          shorter = z .shorter;
         }
 
     peel-takes-time : {side : Side} {s t x y : ℕ} {w : Weight} → Peel 𝓝 side s t x y w → 1 ≤ time 𝓛 w
@@ -186,7 +182,7 @@ module _ {𝓛 : Figures} (lawful : Lawful 𝓛) where
                 record {
                   walk = walks m .walk;
                   weighs = walks m .weighs;
-                  unbeaten = λ other b. entries-unbeaten pair (covers other .member) m (⊑-then-beats lawful (covers other .has) b)
+                  unbeaten = λ other b. entries-unbeaten pair (covers other .member) m (⊑-then-beats lawful (covers other .has) b);
                 }
 
             complete : {p : Weight} → Skyline 𝓝 s t p → List·Memᴰ p (L s t)
@@ -211,11 +207,11 @@ module _ {𝓛 : Figures} (lawful : Lawful 𝓛) where
               let sky = lists .right pair .real m in
               let z = peeled (side s t) (sky .walk) apart in
               let rest : Skyline 𝓝 (z .from) (z .to) (weight (z .rest)) =
-                record {
-                  walk = z .rest;
-                  weighs = refl;
-                  unbeaten = λ other b. let whole = attach (z .peel) other in sky .unbeaten (whole .walk) (beats-cast lawful (whole .weighs) (beats-sum-right lawful (z .arc) b) (z .adds ∙ sky .weighs))
-                } in
+              record {
+                walk = z .rest;
+                weighs = refl;
+                unbeaten = λ other b. let whole = attach (z .peel) other in sky .unbeaten (whole .walk) (beats-cast lawful (whole .weighs) (beats-sum-right lawful (z .arc) b) (z .adds ∙ sky .weighs));
+              } in
               record {
                 from = z .from;
                 to = z .to;
@@ -223,7 +219,7 @@ module _ {𝓛 : Figures} (lawful : Lawful 𝓛) where
                 rest = weight (z .rest);
                 peel = z .peel;
                 member = lists .right (labels .closed pair apart (z .peel)) .complete rest;
-                adds = z .adds ∙ sky .weighs
+                adds = z .adds ∙ sky .weighs;
               }
 
           complete : {x y : ℕ} {w q : Weight} → Peel 𝓝 (side s t) s t x y w → List·Memᴰ q (L x y) → Covered 𝓛 (L s t) (w ⊕ q)

@@ -5,39 +5,28 @@ use mathlib.Core.Logic.{_⊎_, inl, inr, ⊎-elim}
 use mathlib.Core.List.{List, [], _∷_, List·Memᴰ, List·Memᴰ·head, List·Memᴰ·tail, List·Memᴰ·cases-cons, List·Memᴰ·not-nil, Memᴰ·cast}
 use Prim.Native.Nat.{ℕ}
 use Rattle.paths.specs.Figures.{Figures, Lawful}
-use Rattle.paths.specs.Weights.{weights, Rising, none, one, more}
+use Rattle.paths.specs.Weights.{weights, Rising}
 use Rattle.paths.specs.Network.{Network}
 use Rattle.paths.specs.TradeOff.{IsTradeOff, IsJoin}
 use Rattle.paths.specs.Answer.{Best, BestSum}
 use Rattle.paths.proofs.Weights.{weights-lawful, notLater-antisym}
+use Rattle.paths.proofs.Rising.{rising-tail, rising-head}
 
 module _ {𝓛 : Figures} (lawful : Lawful 𝓛) where
   abbrev W : Lawful (weights 𝓛)
   W = weights-lawful lawful
+
   open Figures (weights 𝓛) using (Figure as Weight, _≺_)
+
   infix 40 _≺_
-
-  pub rising-tail : {p : Weight} {l : List Weight} → Rising 𝓛 (p ∷ l) → Rising 𝓛 l
-  rising-tail one = none
-  rising-tail (more h r) = r
-
-  -- the first entry of a rising list stands earlier than every other
-  pub rising-head : {p q : Weight} {l : List Weight} → Rising 𝓛 (p ∷ l) → List·Memᴰ q l → p ≺ q
-  rising-head {p} {q} {l = []} r m = absurd (List·Memᴰ·not-nil m)
-  rising-head {p} {q} {l = x ∷ l} (more h r) m = pick (λ m′. rising-head r m′) (List·Memᴰ·cases-cons m)
-    where
-      pick : (List·Memᴰ q l → x ≺ q) → (q ≡ x) ⊎ List·Memᴰ q l → p ≺ q
-      pick f (inl e) = rw e h
-      pick f (inr m′) = W .≺-trans h (f m′)
-
   -- rising lists with the same members are the same list
   pub rising-unique :
-    {l k : List Weight} →
-    Rising 𝓛 l →
-    Rising 𝓛 k →
-    ((p : Weight) → List·Memᴰ p l → List·Memᴰ p k) →
-    ((p : Weight) → List·Memᴰ p k → List·Memᴰ p l) →
-    l ≡ k
+      {l k : List Weight} →
+      Rising 𝓛 l →
+      Rising 𝓛 k →
+      ((p : Weight) → List·Memᴰ p l → List·Memᴰ p k) →
+      ((p : Weight) → List·Memᴰ p k → List·Memᴰ p l) →
+      l ≡ k
   rising-unique {l = []} {k = []} r s f g = refl
   rising-unique {l = []} {k = q ∷ k} r s f g = absurd (List·Memᴰ·not-nil (g q (List·Memᴰ·head refl)))
   rising-unique {l = p ∷ l} {k = []} r s f g = absurd (List·Memᴰ·not-nil (f p (List·Memᴰ·head refl)))
@@ -50,12 +39,12 @@ module _ {𝓛 : Figures} (lawful : Lawful 𝓛) where
           pick : (p ≡ q) ⊎ List·Memᴰ p k → (q ≡ p) ⊎ List·Memᴰ q l → p ≡ q
           pick (inl e) m = e
           pick (inr m) (inl e) = sym e
-          pick (inr m) (inr m′) = absurd (W .≺-irrefl (W .≺-trans (rising-head s m) (rising-head r m′)) refl)
+          pick (inr m) (inr m′) = absurd (W .≺-irrefl (W .≺-trans (rising-head lawful s m) (rising-head lawful r m′)) refl)
 
       -- a member of a tail is a member of the other tail, since it is not the head
       inside : {a b x : Weight} {m n : List Weight} → Rising 𝓛 (a ∷ m) → a ≡ b → List·Memᴰ x (b ∷ n) → List·Memᴰ x m → List·Memᴰ x n
       inside rise e h k =
-          ⊎-elim (λ e′. absurd (W .≺-irrefl (rising-head rise k) (e ∙ sym e′))) (λ h′. h′) (List·Memᴰ·cases-cons h)
+          ⊎-elim (λ e′. absurd (W .≺-irrefl (rising-head lawful rise k) (e ∙ sym e′))) (λ h′. h′) (List·Memᴰ·cases-cons h)
 
   -- two trade-off lists of a pair of junctions are equal
   pub tradeOff-unique : {𝓝 : Network 𝓛} {s t : ℕ} {l k : List Weight} → IsTradeOff 𝓝 s t l → IsTradeOff 𝓝 s t k → l ≡ k

@@ -12,6 +12,11 @@ use Rattle.paths.specs.TradeOff.{Skyline}
 use Rattle.paths.proofs.Weights.{weights-lawful, unit-⊕, part-⊑-left, part-⊑-right, ⊑-of-eq, beats-sum-left, beats-sum-right}
 
 module _ {𝓛 : Figures} (𝓝 : Network 𝓛) where
+  -- p is the weight of a walk from s to t
+  pub record WalkOf (s t : ℕ) (p : weights 𝓛 .Figure) : Type 0 where
+    pub walk : Walk 𝓝 s t
+    pub weighs : weight walk ≡ p
+
   -- one arc
   unfoldable pub single : {s v r : ℕ} {p : weights 𝓛 .Figure} → 𝓝 .Arc s v r p → Walk 𝓝 s v
   single a = go a stay
@@ -19,6 +24,7 @@ module _ {𝓛 : Figures} (𝓝 : Network 𝓛) where
 module _ {𝓛 : Figures} {𝓝 : Network 𝓛} where
   -- one walk after another
   unfoldable pub _then_ : {s v t : ℕ} → Walk 𝓝 s v → Walk 𝓝 v t → Walk 𝓝 s t
+
   infixr 50 _then_
   stay then k = k
   go a w then k = go a (w then k)
@@ -34,7 +40,7 @@ module _ {𝓛 : Figures} {𝓝 : Network 𝓛} where
     pub after : Walk 𝓝 h t
     pub whole : before then after ≡ w
 
-  start-met : {s t : ℕ} (w : Walk 𝓝 s t) → List·Memᴰ s (junctions w)
+  pub start-met : {s t : ℕ} (w : Walk 𝓝 s t) → List·Memᴰ s (junctions w)
   unfolding junctions
   start-met stay = List·Memᴰ·head refl
   start-met (go a w) = List·Memᴰ·head refl
@@ -91,7 +97,7 @@ module _ {𝓛 : Figures} {𝓝 : Network 𝓛} where
         front = go a (z .front);
         arc = z .arc;
         whole = ap (λ k. go a k) (z .whole);
-        shorter = let y = z .shorter in omega arith
+        shorter = let y = z .shorter in omega arith;
       }
 
 module _ {𝓛 : Figures} (lawful : Lawful 𝓛) where
@@ -124,7 +130,7 @@ module _ {𝓛 : Figures} (lawful : Lawful 𝓛) where
           record {
             walk = w;
             weighs = refl;
-            unbeaten = λ other b. unbeaten (other then k) (rw (weight-then other k) (rw (weight-then w k) (beats-sum-left lawful (weight k) b)))
+            unbeaten = λ other b. unbeaten (other then k) (rw (weight-then other k) (rw (weight-then w k) (beats-sum-left lawful (weight k) b)));
           }
 
       pub after-unbeaten : Skyline 𝓝 v t (weight k)
@@ -132,5 +138,5 @@ module _ {𝓛 : Figures} (lawful : Lawful 𝓛) where
           record {
             walk = k;
             weighs = refl;
-            unbeaten = λ other b. unbeaten (w then other) (rw (weight-then w other) (rw (weight-then w k) (beats-sum-right lawful (weight w) b)))
+            unbeaten = λ other b. unbeaten (w then other) (rw (weight-then w other) (rw (weight-then w k) (beats-sum-right lawful (weight w) b)));
           }

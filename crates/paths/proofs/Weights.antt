@@ -54,11 +54,12 @@ module _ {𝓕 : Figures} (K : Lawful 𝓕) where
 module _ {𝓛 : Figures} (lawful : Lawful 𝓛) where
   abbrev W : Lawful (weights 𝓛)
   W = weights-lawful lawful
+
   open Figures (weights 𝓛) using (Figure as Weight, _⊕_, 𝟘, _⊑_, _≺_)
+
   infixl 60 _⊕_
   infix 40 _⊑_
   infix 40 _≺_
-
   -- ---- Beating
 
   -- what is no larger is equal or beats
@@ -76,14 +77,14 @@ module _ {𝓛 : Figures} (lawful : Lawful 𝓛) where
   beats-then-⊑ {p} {q} {r} b h =
       record {
         no-larger = W .⊑-trans (b .no-larger) h;
-        smaller = λ e. b .smaller (W .⊑-antisym (b .no-larger) (W .⊑-trans h (⊑-of-eq W (sym e))))
+        smaller = λ e. b .smaller (W .⊑-antisym (b .no-larger) (W .⊑-trans h (⊑-of-eq W (sym e))));
       }
 
   pub ⊑-then-beats : {p q r : Weight} → p ⊑ q → Beats 𝓛 q r → Beats 𝓛 p r
   ⊑-then-beats {p} {q} {r} h b =
       record {
         no-larger = W .⊑-trans h (b .no-larger);
-        smaller = λ e. b .smaller (W .⊑-antisym (b .no-larger) (W .⊑-trans (⊑-of-eq W (sym e)) h))
+        smaller = λ e. b .smaller (W .⊑-antisym (b .no-larger) (W .⊑-trans (⊑-of-eq W (sym e)) h));
       }
 
   -- beating speaks of the weights, however they are written
@@ -136,9 +137,9 @@ module _ {𝓛 : Figures} (lawful : Lawful 𝓛) where
   compare-answers p q = pick (number-lawful .≺-compare (time 𝓛 p) (time 𝓛 q)) (lawful .≺-compare (spent 𝓛 p) (spent 𝓛 q))
     where
       pick :
-        (time 𝓛 p < time 𝓛 q) ⊎ ((time 𝓛 p ≡ time 𝓛 q) ⊎ (time 𝓛 q < time 𝓛 p)) →
-        (𝓛 ._≺_ (spent 𝓛 p) (spent 𝓛 q)) ⊎ ((spent 𝓛 p ≡ spent 𝓛 q) ⊎ (𝓛 ._≺_ (spent 𝓛 q) (spent 𝓛 p))) →
-        NotLater 𝓛 p q ⊎ Sooner 𝓛 q p
+          (time 𝓛 p < time 𝓛 q) ⊎ ((time 𝓛 p ≡ time 𝓛 q) ⊎ (time 𝓛 q < time 𝓛 p)) →
+          (𝓛 ._≺_ (spent 𝓛 p) (spent 𝓛 q)) ⊎ ((spent 𝓛 p ≡ spent 𝓛 q) ⊎ (𝓛 ._≺_ (spent 𝓛 q) (spent 𝓛 p))) →
+          NotLater 𝓛 p q ⊎ Sooner 𝓛 q p
       pick (inl h) k = inl (sooner (by-time h))
       pick (inr (inl e)) (inl k) = inl (sooner (by-figures e k))
       pick (inr (inl e)) (inr (inl f)) = inl (same (λ i. record { first = f i; second = e i }))

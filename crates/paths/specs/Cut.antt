@@ -10,8 +10,8 @@ use Rattle.paths.specs.Answer.{Best}
 
 module _ {𝓛 : Figures} (𝓝 : Network 𝓛) (H : ℕ → Type 0) where
   open Figures (weights 𝓛) using (Figure as Weight, _⊕_)
-  infixl 60 _⊕_
 
+  infixl 60 _⊕_
   -- A junction of H on the way
   pub record Meets {s t : ℕ} (w : Walk 𝓝 s t) : Type 0 where
     pub at : ℕ

@@ -34,7 +34,6 @@ pub data FirstThenSecond (𝓐 𝓑 : Figures) (p q : Both (𝓐 .Figure) (𝓑 
 
 -- Two figures side by side: added and compared each for itself, listed by the first and then by the second
 infixr 50 _and_
-
 abbrev pub _and_ : Figures → Figures → Figures
 𝓐 and 𝓑 =
     record {
@@ -42,15 +41,15 @@ abbrev pub _and_ : Figures → Figures → Figures
       _⊕_ = λ p q. record { first = 𝓐 ._⊕_ (p .first) (q .first); second = 𝓑 ._⊕_ (p .second) (q .second) };
       𝟘 = record { first = 𝓐 .𝟘; second = 𝓑 .𝟘 };
       _⊑_ = λ p q. 𝓐 ._⊑_ (p .first) (q .first) × 𝓑 ._⊑_ (p .second) (q .second);
-      _≺_ = FirstThenSecond 𝓐 𝓑
+      _≺_ = FirstThenSecond 𝓐 𝓑;
     }
 
 module _ (𝓕 : Figures) where
   open Figures 𝓕 using (Figure, _⊕_, 𝟘, _⊑_, _≺_)
+
   infixl 60 _⊕_
   infix 40 _⊑_
   infix 40 _≺_
-
   -- The laws that the theory rests on. Nothing asks that a figure is positive.
   pub record Lawful : Type 0 where
     pub ⊕-assoc : (a b c : Figure) → (a ⊕ b) ⊕ c ≡ a ⊕ (b ⊕ c)

@@ -36,7 +36,7 @@ module _ {𝓛 : Figures} (𝓝 : Network 𝓛) where
     pub hops : List (Hop 𝓛)
     pub real : (h : Hop 𝓛) → List·Memᴰ h hops → Arc (h .from) (h .to) (h .number) (h .weighs)
     pub listed :
-      {x y r : ℕ} {w : Weight} → Arc x y r w → List·Memᴰ (record { from = x; to = y; number = r; weighs = w }) hops
+        {x y r : ℕ} {w : Weight} → Arc x y r w → List·Memᴰ (record { from = x; to = y; number = r; weighs = w }) hops
 
 module _ {𝓛 : Figures} {𝓝 : Network 𝓛} where
   -- "Its pair is (sum of times, sum of energies). A junction alone is a path with pair (0,0)."

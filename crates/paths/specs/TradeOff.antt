@@ -1,9 +1,9 @@
 -- Trade-off lists and joins (document 01, "Words"; document 001: skyline paths).
 use mathlib.Core.Path.{_≡_}
-use mathlib.Core.List.{List, List·Memᴰ}
-use Prim.Native.Nat.{ℕ}
+use mathlib.Core.List.{List, [], _∷_, List·Memᴰ}
+use Prim.Native.Nat.{ℕ, _<_}
 use Rattle.paths.specs.Figures.{Figures}
-use Rattle.paths.specs.Weights.{weights, Beats, Rising}
+use Rattle.paths.specs.Weights.{weights, energy, time, spent, Beats, Rising}
 use Rattle.paths.specs.Network.{Network, Walk, weight}
 
 module _ {𝓛 : Figures} (𝓝 : Network 𝓛) where
@@ -24,8 +24,8 @@ module _ {𝓛 : Figures} (𝓝 : Network 𝓛) where
 
 module _ (𝓛 : Figures) where
   open Figures (weights 𝓛) using (Figure as Weight, _⊕_)
-  infixl 60 _⊕_
 
+  infixl 60 _⊕_
   -- A sum of an entry of k and an entry of l
   pub record IsSum (k l : List Weight) (p : Weight) : Type 0 where
     pub left : Weight
@@ -43,3 +43,15 @@ module _ (𝓛 : Figures) where
     pub rising : Rising 𝓛 r
     pub real : {p : Weight} → List·Memᴰ p r → UnbeatenSum k l p
     pub complete : {p : Weight} → UnbeatenSum k l p → List·Memᴰ p r
+
+-- With energy as the one limited figure, "energy strictly rising. Time then strictly falls.": the order in which files and
+-- calls hold a list. `proofs/OneLimit.antt` shows that trade-off lists and joins have it.
+pub data Ordered : List (weights energy .Figure) → Type 0 where
+  none : Ordered []
+  one : {p : weights energy .Figure} → Ordered (p ∷ [])
+  more :
+      {p q : weights energy .Figure} {l : List (weights energy .Figure)} →
+      spent energy p < spent energy q →
+      time energy q < time energy p →
+      Ordered (q ∷ l) →
+      Ordered (p ∷ q ∷ l)

@@ -18,9 +18,9 @@ pair t e = record { first = e; second = t }
 
 module _ (𝓛 : Figures) where
   open Figures (weights 𝓛) using (Figure as Weight, _⊑_, _≺_)
+
   infix 40 _⊑_
   infix 40 _≺_
-
   -- The sum of times
   abbrev pub time : Weight → ℕ
   time p = p .second

@@ -1,0 +1,256 @@
+-- From any list of weights to its unbeaten members, each once, in rising order; from any two lists to their join.
+-- In this order: lists of all that has a property; all sums; sorting; the skyline of a list; joins.
+use mathlib.Core.Path.{_≡_, refl, sym, _∙_}
+use mathlib.Core.Logic.{_⊎_, inl, inr, ⊎-elim}
+use mathlib.Core.List.{List, [], _∷_, _++_, List·Memᴰ, List·Memᴰ·head, List·Memᴰ·tail, List·Memᴰ·cases-cons, List·Memᴰ·not-nil, List·Memᴰ·eq-of-singleton, List·Memᴰ·append-cases, Memᴰ·append-left, Memᴰ·append-right, Memᴰ·cast}
+use Prim.Native.Nat.{ℕ, zero, suc, _<_}
+use native.Mathlib.Omega.{arith}
+use Rattle.paths.specs.Figures.{Figures, Lawful}
+use Rattle.paths.specs.Weights.{weights, Beats, Rising, none, one, more}
+use Rattle.paths.specs.TradeOff.{IsSum, IsJoin}
+use Rattle.paths.proofs.Weights.{weights-lawful, same?, unbeaten-below}
+use Rattle.paths.proofs.Covering.{Found, found?, Covered, covered-more}
+use Rattle.paths.proofs.Rising.{rising-tail, rising-cons, rising-head}
+
+-- ---- Lists of all that has a property
+
+module _ {A : Type 0} (P : A → Type 0) where
+  -- a list of what has P and of nothing else
+  pub record Listing : Type 0 where
+    pub list : List A
+    pub only : {a : A} → List·Memᴰ a list → P a
+    pub all : {a : A} → P a → List·Memᴰ a list
+
+module _ {A : Type 0} where
+  pub listing-one : (x : A) → Listing (λ a. a ≡ x)
+  listing-one x = record { list = x ∷ []; only = λ m. List·Memᴰ·eq-of-singleton m; all = λ e. List·Memᴰ·head e }
+
+-- One thing, listed where a decided condition holds
+module _ {A C : Type 0} where
+  pub listing-if : Dec C → (x : A) → Listing (λ a. C × (a ≡ x))
+  listing-if (yes c) x = record { list = x ∷ []; only = λ m. (c, List·Memᴰ·eq-of-singleton m); all = λ h. List·Memᴰ·head (h .1) }
+  listing-if (no n) x = record { list = []; only = λ m. absurd (List·Memᴰ·not-nil m); all = λ h. absurd (n (h .0)) }
+
+-- All that some member of a list is related to, where each thing alone has a list of what it is related to
+module _ {A B : Type 0} (R : A → B → Type 0) where
+  pub listing-gather : ((a : A) → Listing (R a)) → (l : List A) → Listing (λ b. Found (λ a. R a b) l)
+  listing-gather each [] =
+      record { list = []; only = λ m. absurd (List·Memᴰ·not-nil m); all = λ f. absurd (List·Memᴰ·not-nil (f .member)) }
+  listing-gather each (x ∷ l) = append (each x) (listing-gather each l)
+    where
+      append : Listing (R x) → Listing (λ b. Found (λ a. R a b) l) → Listing (λ b. Found (λ a. R a b) (x ∷ l))
+      append i r =
+          record {
+            list = i .list ++ r .list;
+            only =
+                λ m.
+                ⊎-elim
+                (λ k. record { entry = x; member = List·Memᴰ·head refl; has = i .only k })
+                (λ k. let f = r .only k in record { entry = f .entry; member = List·Memᴰ·tail (f .member); has = f .has })
+                (List·Memᴰ·append-cases (i .list) m);
+            all =
+                λ f.
+                ⊎-elim
+                (λ e. Memᴰ·append-left (r .list) (i .all (rw e at (f .has))))
+                (λ k. Memᴰ·append-right (i .list) (r .all (record { entry = f .entry; member = k; has = f .has })))
+                (List·Memᴰ·cases-cons (f .member));
+          }
+
+-- The members of a list that have a decided property
+module _ {A : Type 0} (P : A → Type 0) where
+  pub record Chosen (l : List A) (a : A) : Type 0 where
+    pub member : List·Memᴰ a l
+    pub has : P a
+
+  pub listing-chosen : ((a : A) → Dec (P a)) → (l : List A) → Listing (Chosen l)
+  listing-chosen decide l =
+      let g = listing-gather (λ a b. P a × (b ≡ a)) (λ a. listing-if (decide a) a) l in
+      record {
+        list = g .list;
+        only = λ m. let f = g .only m in record { member = Memᴰ·cast (f .has .1) (f .member); has = rw (f .has .1) (f .has .0) };
+        all = λ c. g .all (record { entry = _; member = c .member; has = (c .has, refl) });
+      }
+
+-- ---- Lists of weights: all sums, and what is shown to exist below
+
+module _ (𝓛 : Figures) where
+  open Figures (weights 𝓛) using (Figure as Weight, _⊕_)
+
+  infixl 60 _⊕_
+  -- All sums of an entry of k and an entry of l
+  pub listing-sums : (k l : List Weight) → Listing (IsSum 𝓛 k l)
+  listing-sums k l =
+      record {
+        list = sums .list;
+        only =
+            λ m.
+            let f = sums .only m in
+            record { left = f .entry; right = f .has .entry; in-first = f .member; in-second = f .has .member; adds = sym (f .has .has) };
+        all =
+            λ s.
+            sums .all
+            (record { entry = s .left; member = s .in-first; has = record { entry = s .right; member = s .in-second; has = sym (s .adds) } });
+      }
+    where
+      right-sums : (a : Weight) → Listing (λ p. Found (λ b. p ≡ a ⊕ b) l)
+      right-sums a = listing-gather (λ b p. p ≡ a ⊕ b) (λ b. listing-one (a ⊕ b)) l
+
+      sums : Listing (λ p. Found (λ a. Found (λ b. p ≡ a ⊕ b) l) k)
+      sums = listing-gather (λ a p. Found (λ b. p ≡ a ⊕ b) l) right-sums k
+
+  -- The members of m, "each pair once, energy strictly rising"
+  pub record Sorted (m : List Weight) : Type 0 where
+    pub list : List Weight
+    pub rising : Rising 𝓛 list
+    pub only : {p : Weight} → List·Memᴰ p list → List·Memᴰ p m
+    pub all : {p : Weight} → List·Memᴰ p m → List·Memᴰ p list
+
+  -- The members of m that no member of m beats, in rising order; below each member of m lies one of them
+  pub record SkylineOf (m : List Weight) : Type 0 where
+    pub list : List Weight
+    pub rising : Rising 𝓛 list
+    pub from : {p : Weight} → List·Memᴰ p list → List·Memᴰ p m
+    pub unbeaten : {p q : Weight} → List·Memᴰ p list → List·Memᴰ q m → Beats 𝓛 q p → ⊥
+    pub covers : {p : Weight} → List·Memᴰ p m → Covered 𝓛 list p
+
+  -- The join of k and l, with its proof
+  pub record Joins (k l : List Weight) : Type 0 where
+    pub list : List Weight
+    pub is-join : IsJoin 𝓛 k l list
+
+module _ {𝓛 : Figures} (lawful : Lawful 𝓛) where
+  abbrev W : Lawful (weights 𝓛)
+  W = weights-lawful lawful
+
+  open Figures (weights 𝓛) using (Figure as Weight, _⊕_, _⊑_, _≺_)
+
+  infixl 60 _⊕_
+  infix 40 _⊑_
+  infix 40 _≺_
+  -- ---- Sorting, by putting one entry after another into its place
+
+  insert : (x : Weight) (l : List Weight) → Rising 𝓛 l → Sorted 𝓛 (x ∷ l)
+  insert x [] r = record { list = x ∷ []; rising = one; only = λ m. m; all = λ m. m }
+  insert x (y ∷ l) r = pick (W .≺-compare x y) (insert x l (rising-tail r))
+    where
+      pick : (x ≺ y) ⊎ ((x ≡ y) ⊎ (y ≺ x)) → Sorted 𝓛 (x ∷ l) → Sorted 𝓛 (x ∷ y ∷ l)
+      pick (inl h) z = record { list = x ∷ y ∷ l; rising = more h r; only = λ m. m; all = λ m. m }
+      pick (inr (inl e)) z =
+          record {
+            list = y ∷ l;
+            rising = r;
+            only = λ m. List·Memᴰ·tail m;
+            all = λ m. ⊎-elim (λ f. List·Memᴰ·head (f ∙ e)) (λ k. k) (List·Memᴰ·cases-cons m);
+          }
+      pick (inr (inr h)) z =
+          record {
+            list = y ∷ z .list;
+            rising = rising-cons (λ q m. ⊎-elim (λ e. rw e h) (λ k. rising-head lawful r k) (List·Memᴰ·cases-cons (z .only m))) (z .rising);
+            only =
+                λ m.
+                ⊎-elim
+                (λ e. List·Memᴰ·tail (List·Memᴰ·head e))
+                (λ k. ⊎-elim (λ e. List·Memᴰ·head e) (λ j. List·Memᴰ·tail (List·Memᴰ·tail j)) (List·Memᴰ·cases-cons (z .only k)))
+                (List·Memᴰ·cases-cons m);
+            all =
+                λ m.
+                ⊎-elim
+                (λ e. List·Memᴰ·tail (z .all (List·Memᴰ·head e)))
+                (λ k. ⊎-elim (λ e. List·Memᴰ·head e) (λ j. List·Memᴰ·tail (z .all (List·Memᴰ·tail j))) (List·Memᴰ·cases-cons k))
+                (List·Memᴰ·cases-cons m);
+          }
+
+  pub sorted : (m : List Weight) → Sorted 𝓛 m
+  sorted [] = record { list = []; rising = none; only = λ k. k; all = λ k. k }
+  sorted (x ∷ m) = pick (sorted m)
+    where
+      pick : Sorted 𝓛 m → Sorted 𝓛 (x ∷ m)
+      pick z =
+          let y = insert x (z .list) (z .rising) in
+          record {
+            list = y .list;
+            rising = y .rising;
+            only = λ k. ⊎-elim (λ e. List·Memᴰ·head e) (λ j. List·Memᴰ·tail (z .only j)) (List·Memᴰ·cases-cons (y .only k));
+            all = λ k. y .all (⊎-elim (λ e. List·Memᴰ·head e) (λ j. List·Memᴰ·tail (z .all j)) (List·Memᴰ·cases-cons k));
+          }
+
+  -- ---- The skyline of a list
+
+  -- beating is decided, since ⊑ and equality are
+  pub beats? : (p q : Weight) → Dec (Beats 𝓛 p q)
+  beats? p q = pick (W .⊑-decide p q) (same? W p q)
+    where
+      pick : Dec (p ⊑ q) → Dec (p ≡ q) → Dec (Beats 𝓛 p q)
+      pick (yes h) (yes e) = no (λ b. b .smaller e)
+      pick (yes h) (no n) = yes (record { no-larger = h; smaller = n })
+      pick (no n) e = no (λ b. n (b .no-larger))
+
+  -- the members that no member beats, sorted
+  pub skylineOf : (m : List Weight) → SkylineOf 𝓛 m
+  skylineOf m =
+      record {
+        list = order .list;
+        rising = order .rising;
+        from = λ k. unbeaten .only (order .only k) .member;
+        unbeaten = λ {p} {q} k j b. unbeaten .only (order .only k) .has (record { entry = q; member = j; has = b });
+        covers = λ {p} k. descend (suc (W .size p)) p k (omega arith);
+      }
+    where
+      Beaten : Weight → Type 0
+      Beaten p = Found (λ q. Beats 𝓛 q p) m
+
+      beaten? : (p : Weight) → Dec (Beaten p)
+      beaten? p = found? (λ q. Beats 𝓛 q p) (λ q. beats? q p) m
+
+      not-beaten? : (p : Weight) → Dec (Beaten p → ⊥)
+      not-beaten? p = flip (beaten? p)
+        where
+          flip : Dec (Beaten p) → Dec (Beaten p → ⊥)
+          flip (yes f) = no (λ n. n f)
+          flip (no n) = yes n
+
+      unbeaten : Listing (Chosen (λ p. Beaten p → ⊥) m)
+      unbeaten = listing-chosen (λ p. Beaten p → ⊥) not-beaten? m
+
+      order : Sorted 𝓛 (unbeaten .list)
+      order = sorted (unbeaten .list)
+
+      -- from a beaten member down to a smaller one, until none is smaller
+      descend : (n : ℕ) (p : Weight) → List·Memᴰ p m → W .size p < n → Covered 𝓛 (order .list) p
+      descend zero p k h = absurd (omega arith)
+      descend (suc n) p k h = pick (λ q j smaller. descend n q j smaller) (beaten? p)
+        where
+          pick : ((q : Weight) → List·Memᴰ q m → W .size q < n → Covered 𝓛 (order .list) q) → Dec (Beaten p) → Covered 𝓛 (order .list) p
+          pick below (yes f) =
+              covered-more lawful
+              (below (f .entry) (f .member) (omega (arith, W .size-falls (f .has .no-larger) (f .has .smaller))))
+              (f .has .no-larger)
+          pick below (no n) = record { entry = p; member = order .all (unbeaten .all (record { member = k; has = n })); has = W .⊑-refl p }
+
+  -- what a list covers and no member of it beats stands in its skyline
+  pub skylineOf-holds :
+      {m : List Weight} {p : Weight} (z : SkylineOf 𝓛 m) → Covered 𝓛 m p → ((q : Weight) → List·Memᴰ q m → Beats 𝓛 q p → ⊥) →
+      List·Memᴰ p (z .list)
+  skylineOf-holds z f unbeaten =
+      let g = z .covers (f .member) in
+      Memᴰ·cast (sym (unbeaten-below lawful (W .⊑-trans (g .has) (f .has)) (unbeaten (g .entry) (z .from (g .member))))) (g .member)
+
+  -- ---- Joins: the skyline of all sums
+
+  pub join-exists : (k l : List Weight) → Joins 𝓛 k l
+  join-exists k l =
+      let sums = listing-sums 𝓛 k l in
+      let z = skylineOf (sums .list) in
+      record {
+        list = z .list;
+        is-join =
+            record {
+              rising = z .rising;
+              real = λ m. record { sum = sums .only (z .from m); unbeaten = λ q s b. z .unbeaten m (sums .all s) b };
+              complete =
+                  λ {p} u.
+                  skylineOf-holds z
+                  (record { entry = p; member = sums .all (u .sum); has = W .⊑-refl p })
+                  (λ q m b. u .unbeaten q (sums .only m) b);
+            };
+      }
