@@ -1,39 +1,29 @@
 -- Below every walk's weight lies a listed weight, so a trade-off list is all that a limited query needs of the paths.
--- In this order: the search of a list; covering by a trade-off list; two entries of a list.
+-- In this order: the search of a list; covering by a trade-off list.
 use mathlib.Core.Path.{_≡_, refl, sym, ap, _∙_}
 use mathlib.Core.Logic.{_⊎_, inl, inr, ⊎-elim}
 use mathlib.Core.List.{List, [], _∷_, List·Memᴰ, List·Memᴰ·head, List·Memᴰ·tail, List·Memᴰ·cases-cons, List·Memᴰ·not-nil}
 use Prim.Native.Nat.{ℕ, zero, suc, _≤_, _<_}
 use native.Mathlib.Omega.{arith}
 use Rattle.paths.specs.Figures.{Figures, Lawful}
-use Rattle.paths.specs.Weights.{weights, time, spent, Beats}
+use Rattle.paths.specs.Weights.{weights, Found, Covered}
 use Rattle.paths.specs.Network.{Network, Walk, weight}
 use Rattle.paths.specs.TradeOff.{Skyline, IsTradeOff}
 use Rattle.paths.proofs.Weights.{weights-lawful}
 
--- A member of a list with a property, or the news that there is none
+-- whether some member of a list has a decided property
 module _ {A : Type 0} (P : A → Type 0) where
-  pub record Found (l : List A) : Type 0 where
-    pub entry : A
-    pub member : List·Memᴰ entry l
-    pub has : P entry
-
-  pub found? : ((a : A) → Dec (P a)) → (l : List A) → Dec (Found l)
+  pub found? : ((a : A) → Dec (P a)) → (l : List A) → Dec (Found P l)
   found? decide [] = no (λ f. List·Memᴰ·not-nil (f .member))
   found? decide (x ∷ l) = pick (decide x) (found? decide l)
     where
-      clash : (P x → ⊥) → (Found l → ⊥) → Found (x ∷ l) → ⊥
+      clash : (P x → ⊥) → (Found P l → ⊥) → Found P (x ∷ l) → ⊥
       clash h k f = ⊎-elim (λ e. h (rw e at (f .has))) (λ m. k (record { entry = f .entry; member = m; has = f .has })) (List·Memᴰ·cases-cons (f .member))
 
-      pick : Dec (P x) → Dec (Found l) → Dec (Found (x ∷ l))
+      pick : Dec (P x) → Dec (Found P l) → Dec (Found P (x ∷ l))
       pick (yes h) k = yes (record { entry = x; member = List·Memᴰ·head refl; has = h })
       pick (no h) (yes f) = yes (record { entry = f .entry; member = List·Memᴰ·tail (f .member); has = f .has })
       pick (no h) (no k) = no (clash h k)
-
-module _ (𝓛 : Figures) where
-  -- p is no smaller than an entry of l
-  abbrev pub Covered : List (weights 𝓛 .Figure) → weights 𝓛 .Figure → Type 0
-  Covered l p = Found (λ q. weights 𝓛 ._⊑_ q p) l
 
 module _ {𝓛 : Figures} (𝓝 : Network 𝓛) where
   -- A trade-off list of s and t, with its proof

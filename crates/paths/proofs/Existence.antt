@@ -7,13 +7,13 @@ use mathlib.Core.List.{List, [], _∷_, _++_, map, List·Memᴰ, List·Memᴰ·c
 use Prim.Native.Nat.{ℕ, _≤_}
 use native.Mathlib.Decide.{ℕ-discrete, decLe}
 use Rattle.paths.specs.Figures.{Figures, Lawful}
-use Rattle.paths.specs.Weights.{weights, energy, time}
+use Rattle.paths.specs.Weights.{Found, Covered, weights, energy, time}
 use Rattle.paths.specs.Network.{Network, Hop, Walk, stay, go, Finite, weight}
 use Rattle.paths.specs.TradeOff.{IsSum}
 use Rattle.paths.specs.Examples.{Road, bothWays, networkOf}
 use Rattle.paths.proofs.Weights.{weights-lawful, ⊑-of-eq, ⊕-mono-both, ⊕-mono-right, part-⊑-right, ⊑-then-beats}
 use Rattle.paths.proofs.Walks.{WalkOf, single, _then_, weight-one, weight-then}
-use Rattle.paths.proofs.Covering.{Found, Covered, TradeOffs}
+use Rattle.paths.proofs.Covering.{TradeOffs}
 use Rattle.paths.proofs.Skyline.{Listing, listing-if, listing-gather, listing-chosen, listing-sums, skylineOf, skylineOf-holds}
 
 module _ {𝓛 : Figures} (𝓝 : Network 𝓛) where

@@ -9,12 +9,12 @@ use Prim.Native.Nat.{ℕ, zero, suc, _+_, _≤_, _<_}
 use native.Mathlib.Decide.{ℕ-discrete}
 use native.Mathlib.Omega.{arith}
 use Rattle.paths.specs.Figures.{Figures, Lawful}
-use Rattle.paths.specs.Weights.{weights, time, Beats, Rising, one}
+use Rattle.paths.specs.Weights.{Covered, weights, time, Beats, Rising, one}
 use Rattle.paths.specs.Network.{Network, Walk, stay, go, weight}
 use Rattle.paths.specs.TradeOff.{Skyline, IsTradeOff}
 use Rattle.paths.proofs.Weights.{weights-lawful, ⊑-of-eq, unbeaten-below, ⊑-then-beats, ⊕-mono-right, beats-sum-right, beats-cast}
 use Rattle.paths.proofs.Walks.{WalkOf, _then_, arcs, single, Last, last, weight-then, weight-one, last-weighs}
-use Rattle.paths.proofs.Covering.{Covered, covered-more, walk-covered}
+use Rattle.paths.proofs.Covering.{covered-more, walk-covered}
 
 -- the end at which a walk is taken apart
 pub data Side : Type 0 where

@@ -6,10 +6,10 @@ use mathlib.Core.List.{List, [], _∷_, _++_, List·Memᴰ, List·Memᴰ·head, 
 use Prim.Native.Nat.{ℕ, zero, suc, _<_}
 use native.Mathlib.Omega.{arith}
 use Rattle.paths.specs.Figures.{Figures, Lawful}
-use Rattle.paths.specs.Weights.{weights, Beats, Rising, none, one, more}
+use Rattle.paths.specs.Weights.{Found, Covered, weights, Beats, Rising, none, one, more}
 use Rattle.paths.specs.TradeOff.{IsSum, IsJoin}
 use Rattle.paths.proofs.Weights.{weights-lawful, same?, unbeaten-below}
-use Rattle.paths.proofs.Covering.{Found, found?, Covered, covered-more}
+use Rattle.paths.proofs.Covering.{found?, covered-more}
 use Rattle.paths.proofs.Rising.{rising-tail, rising-cons, rising-head}
 
 -- ---- Lists of all that has a property

@@ -1,6 +1,6 @@
 -- Weights: a road's or a path's time together with its limited figures (document 01, "Words, and where they come from").
 use mathlib.Core.Path.{_≡_}
-use mathlib.Core.List.{List, [], _∷_}
+use mathlib.Core.List.{List, [], _∷_, List·Memᴰ}
 use Prim.Native.Nat.{ℕ, _<_}
 use Rattle.paths.specs.Figures.{Figures, number, Both, _and_}
 
@@ -15,6 +15,12 @@ energy = number
 -- Document 01's pair (time, energy)
 abbrev pub pair : ℕ → ℕ → weights energy .Figure
 pair t e = record { first = e; second = t }
+
+-- A member of a list that has a property
+pub record Found {A : Type 0} (P : A → Type 0) (l : List A) : Type 0 where
+  pub entry : A
+  pub member : List·Memᴰ entry l
+  pub has : P entry
 
 module _ (𝓛 : Figures) where
   open Figures (weights 𝓛) using (Figure as Weight, _⊑_, _≺_)
@@ -53,3 +59,7 @@ module _ (𝓛 : Figures) where
     none : Rising []
     one : {p : Weight} → Rising (p ∷ [])
     more : {p q : Weight} {l : List Weight} → p ≺ q → Rising (q ∷ l) → Rising (p ∷ q ∷ l)
+
+  -- p is no smaller than an entry of l: the query search's "entry that covers the pair in question"
+  abbrev pub Covered : List Weight → Weight → Type 0
+  Covered l p = Found (λ q. q ⊑ p) l
