@@ -49,46 +49,46 @@ sumEnergyOf sumCase.OverLimit = 0
 -- Limited join: "two lists as in Join and a limit in; number, time and energy of the best sum out"
 pub data LimitedJoin (ts es us fs : List ℕ) (C number time units : ℕ) : Type 0 where
   refused :
-    (joinNumber ts es us fs ≡ 0 → ⊥) → number ≡ joinNumber ts es us fs → time ≡ 0 → units ≡ 0 → LimitedJoin ts es us fs C number time units
+      (joinNumber ts es us fs ≡ 0 → ⊥) → number ≡ joinNumber ts es us fs → time ≡ 0 → units ≡ 0 → LimitedJoin ts es us fs C number time units
   over-limit :
-    joinNumber ts es us fs ≡ 0 →
-    NoSum energy (entries ts es) (entries us fs) C →
-    number ≡ 23 →
-    time ≡ 0 →
-    units ≡ 0 →
-    LimitedJoin ts es us fs C number time units
+      joinNumber ts es us fs ≡ 0 →
+      NoSum energy (entries ts es) (entries us fs) C →
+      number ≡ 23 →
+      time ≡ 0 →
+      units ≡ 0 →
+      LimitedJoin ts es us fs C number time units
   found :
-    joinNumber ts es us fs ≡ 0 →
-    BestSum energy (entries ts es) (entries us fs) C (pair time units) →
-    number ≡ 0 →
-    LimitedJoin ts es us fs C number time units
+      joinNumber ts es us fs ≡ 0 →
+      BestSum energy (entries ts es) (entries us fs) C (pair time units) →
+      number ≡ 0 →
+      LimitedJoin ts es us fs C number time units
 
 -- Join: "two lists in, one out the same way"; "room is the shorter of the two"; "24 the answer needs more places than were lent"
 pub data Join (ts es us fs : List ℕ) (outTimes outEnergies : List ℕ) (number count : ℕ) (timesAfter energiesAfter : List ℕ) : Type 0 where
   refused :
-    (joinNumber ts es us fs ≡ 0 → ⊥) →
-    number ≡ joinNumber ts es us fs →
-    count ≡ 0 →
-    timesAfter ≡ outTimes →
-    energiesAfter ≡ outEnergies →
-    Join ts es us fs outTimes outEnergies number count timesAfter energiesAfter
+      (joinNumber ts es us fs ≡ 0 → ⊥) →
+      number ≡ joinNumber ts es us fs →
+      count ≡ 0 →
+      timesAfter ≡ outTimes →
+      energiesAfter ≡ outEnergies →
+      Join ts es us fs outTimes outEnergies number count timesAfter energiesAfter
   no-room :
-    {joined : List Weight} →
-    joinNumber ts es us fs ≡ 0 →
-    IsJoin energy (entries ts es) (entries us fs) joined →
-    min (length outTimes) (length outEnergies) < length joined →
-    number ≡ 24 →
-    count ≡ 0 →
-    timesAfter ≡ outTimes →
-    energiesAfter ≡ outEnergies →
-    Join ts es us fs outTimes outEnergies number count timesAfter energiesAfter
+      {joined : List Weight} →
+      joinNumber ts es us fs ≡ 0 →
+      IsJoin energy (entries ts es) (entries us fs) joined →
+      min (length outTimes) (length outEnergies) < length joined →
+      number ≡ 24 →
+      count ≡ 0 →
+      timesAfter ≡ outTimes →
+      energiesAfter ≡ outEnergies →
+      Join ts es us fs outTimes outEnergies number count timesAfter energiesAfter
   joined :
-    {joined : List Weight} →
-    joinNumber ts es us fs ≡ 0 →
-    IsJoin energy (entries ts es) (entries us fs) joined →
-    length joined ≤ min (length outTimes) (length outEnergies) →
-    number ≡ 0 →
-    count ≡ length joined →
-    timesAfter ≡ filled outTimes (times joined) →
-    energiesAfter ≡ filled outEnergies (energies joined) →
-    Join ts es us fs outTimes outEnergies number count timesAfter energiesAfter
+      {joined : List Weight} →
+      joinNumber ts es us fs ≡ 0 →
+      IsJoin energy (entries ts es) (entries us fs) joined →
+      length joined ≤ min (length outTimes) (length outEnergies) →
+      number ≡ 0 →
+      count ≡ length joined →
+      timesAfter ≡ filled outTimes (times joined) →
+      energiesAfter ≡ filled outEnergies (energies joined) →
+      Join ts es us fs outTimes outEnergies number count timesAfter energiesAfter

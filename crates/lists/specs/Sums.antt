@@ -26,7 +26,7 @@ module _ (ts es us fs : List ℕ) where
     pub second-place : j < length us
     pub within : Within energy C (sumAt i j)
     pub least :
-      (a b : ℕ) → a < length ts → b < length us → Within energy C (sumAt a b) → NotLater energy (sumAt i j) (sumAt a b)
+        (a b : ℕ) → a < length ts → b < length us → Within energy C (sumAt a b) → NotLater energy (sumAt i j) (sumAt a b)
     pub lowest : (a b : ℕ) → a < length ts → b < length us → sumAt a b ≡ sumAt i j → i ≤ a
 
   -- What the search for the best sum hands back
