@@ -1,0 +1,59 @@
+-- What a file that passed its form holds, as facts for those who read it further; `proofs/` shows that a number of 0 gives them.
+use mathlib.Core.Path.{_≡_}
+use mathlib.Core.Bool.{true}
+use mathlib.Core.List.{List}
+use Prim.Native.Nat.{ℕ, suc, _+_, _*_, _≤_, _<_}
+use lib.ListN.{length, getD}
+use Rattle.files.specs.Versions.{leastEnergy}
+use Rattle.files.specs.NetworkFile.{versionOf, junctionsOf, roadsOf, roadLow, roadHigh, roadTime, roadEnergy, recordRises}
+use Rattle.files.specs.LabelFile.{entriesOf, countAt, timeAt, energyAt, listEnd}
+use Rattle.files.specs.Forest.{depthOf, parentFits}
+use Rattle.files.specs.Stored.{listsOf, placeOf, startOf, entriesBefore}
+use Rattle.files.specs.LabelForm.{mostBytes, mostCount, mostFigure}
+
+-- A network that passed
+pub record NetworkFits (s : List ℕ) : Type 0 where
+  pub some-junction : 1 ≤ junctionsOf s
+  pub few-junctions : junctionsOf s ≤ 1024
+  pub few-roads : roadsOf s ≤ 4096
+  pub whole : length s ≡ 16 + 8 * roadsOf s
+  pub low-below-high : (k : ℕ) → k < roadsOf s → roadLow s k < roadHigh s k
+  pub high-on-map : (k : ℕ) → k < roadsOf s → roadHigh s k < junctionsOf s
+  pub rises : (k : ℕ) → k < roadsOf s → recordRises s k ≡ true
+  pub takes-time : (k : ℕ) → k < roadsOf s → 1 ≤ roadTime s k
+  pub takes-energy : (k : ℕ) → k < roadsOf s → leastEnergy (versionOf s) ≤ roadEnergy s k
+
+-- Parents that passed 15
+pub record ParentsFit (s : List ℕ) : Type 0 where
+  pub few-junctions : junctionsOf s ≤ 1024
+  pub inside : 16 + 2 * junctionsOf s ≤ length s
+  pub fits : (v : ℕ) → v < junctionsOf s → parentFits s v ≡ true
+  pub ends : (v : ℕ) → v < junctionsOf s → depthOf s v < junctionsOf s
+
+-- A list that stands whole in the file and keeps the rules of 17
+pub record ListFits (s : List ℕ) (at : ℕ) : Type 0 where
+  pub short : countAt s at ≤ mostCount
+  pub inside : listEnd s at ≤ length s
+  pub time-fits : (j : ℕ) → j < countAt s at → (1 ≤ timeAt s at j) × (timeAt s at j ≤ mostFigure)
+  pub energy-fits : (j : ℕ) → j < countAt s at → (leastEnergy (versionOf s) ≤ energyAt s at j) × (energyAt s at j ≤ mostFigure)
+  pub time-falls : (j : ℕ) → suc j < countAt s at → timeAt s at (suc j) < timeAt s at j
+  pub energy-rises : (j : ℕ) → suc j < countAt s at → energyAt s at j < energyAt s at (suc j)
+
+-- Labels that passed 11 to 15 and 17: "lists tile the file exactly to its end"
+pub record Formed (s : List ℕ) : Type 0 where
+  pub few-bytes : length s ≤ mostBytes
+  pub some-junction : 1 ≤ junctionsOf s
+  pub parents : ParentsFit s
+  pub lists : (g : ℕ) → g < listsOf s → ListFits s (placeOf s g)
+  pub tile : placeOf s (listsOf s) ≡ length s
+  pub all-entries : entriesBefore s (listsOf s) ≡ entriesOf s
+
+-- The depths of the junctions, worked out once per call
+pub record DepthsFilled (s depths : List ℕ) : Type 0 where
+  pub places : length depths ≡ 1024
+  pub depth : (v : ℕ) → v < junctionsOf s → getD depths v 0 ≡ depthOf s v
+
+-- The byte where each junction's lists start
+pub record StartsFilled (s starts : List ℕ) : Type 0 where
+  pub places : length starts ≡ 1024
+  pub start : (v : ℕ) → v < junctionsOf s → getD starts v 0 ≡ startOf s v

@@ -1,0 +1,1 @@
+// The network file and the label file: every byte has one reading.
