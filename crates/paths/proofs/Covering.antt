@@ -13,7 +13,7 @@ use Rattle.paths.proofs.Weights.{weights-lawful}
 
 -- whether some member of a list has a decided property
 module _ {A : Type 0} (P : A → Type 0) where
-  pub found? : ((a : A) → Dec (P a)) → (l : List A) → Dec (Found P l)
+  unfoldable pub found? : ((a : A) → Dec (P a)) → (l : List A) → Dec (Found P l)
   found? decide [] = no (λ f. List·Memᴰ·not-nil (f .member))
   found? decide (x ∷ l) = pick (decide x) (found? decide l)
     where

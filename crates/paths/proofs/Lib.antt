@@ -15,3 +15,9 @@ pub mod Route
 pub mod RouteStep
 pub mod Forest
 pub mod Crossing
+pub mod TwoWay
+pub mod LabelTest
+pub mod Decisions
+pub mod Fronts
+pub mod Computed
+pub mod Examples
