@@ -24,10 +24,10 @@ module _ {𝓛 : Figures} (lawful : Lawful 𝓛) {𝓝 : Network 𝓛} (two-way 
       record {
         walk = z .walk then last;
         weighs =
-          weight-then lawful (z .walk) last
-          ∙ ap (λ q. weights 𝓛 ._⊕_ q (weight last)) (z .weighs)
-          ∙ ap (λ q. weights 𝓛 ._⊕_ (weight k) q) (weight-one lawful 𝓝 (two-way .back a))
-          ∙ weights-lawful lawful .⊕-comm (weight k) p
+            weight-then lawful (z .walk) last
+            ∙ ap (λ q. weights 𝓛 ._⊕_ q (weight last)) (z .weighs)
+            ∙ ap (λ q. weights 𝓛 ._⊕_ (weight k) q) (weight-one lawful 𝓝 (two-way .back a))
+            ∙ weights-lawful lawful .⊕-comm (weight k) p;
       }
 
   pub skyline-back : {s t : ℕ} {p : weights 𝓛 .Figure} → Skyline 𝓝 s t p → Skyline 𝓝 t s p
@@ -36,7 +36,7 @@ module _ {𝓛 : Figures} (lawful : Lawful 𝓛) {𝓝 : Network 𝓛} (two-way 
       record {
         walk = z .walk;
         weighs = z .weighs ∙ sky .weighs;
-        unbeaten = λ other b. let y = walked-back other in sky .unbeaten (y .walk) (rw (y .weighs) b)
+        unbeaten = λ other b. let y = walked-back other in sky .unbeaten (y .walk) (rw (y .weighs) b);
       }
 
   -- the trade-off list of s and t is that of t and s
@@ -45,5 +45,5 @@ module _ {𝓛 : Figures} (lawful : Lawful 𝓛) {𝓝 : Network 𝓛} (two-way 
       record {
         rising = right .rising;
         real = λ m. skyline-back (right .real m);
-        complete = λ sky. right .complete (skyline-back sky)
+        complete = λ sky. right .complete (skyline-back sky);
       }
