@@ -7,7 +7,9 @@ use lib.ListN.{length, getD}
 use Rattle.files.specs.Versions.{leastEnergy}
 use Rattle.files.specs.NetworkFile.{versionOf, junctionsOf, roadsOf, roadLow, roadHigh, roadTime, roadEnergy, recordRises}
 use Rattle.files.specs.LabelFile.{entriesOf, countAt, timeAt, energyAt, listEnd}
-use Rattle.files.specs.Forest.{depthOf, parentFits}
+use Rattle.refusals.specs.Order.{every}
+use Rattle.files.specs.Forest.{depthOf, parentFits, roadJoins}
+use Rattle.files.specs.Roads.{Grouped}
 use Rattle.files.specs.Stored.{listsOf, placeOf, startOf, entriesBefore}
 use Rattle.files.specs.LabelForm.{mostBytes, mostCount, mostFigure}
 
@@ -57,3 +59,16 @@ pub record DepthsFilled (s depths : List ℕ) : Type 0 where
 pub record StartsFilled (s starts : List ℕ) : Type 0 where
   pub places : length starts ≡ 1024
   pub start : (v : ℕ) → v < junctionsOf s → getD starts v 0 ≡ startOf s v
+
+-- Labels that passed 11 to 17 beside a network that passed 1 to 6
+pub record Beside (net s : List ℕ) : Type 0 where
+  pub network : NetworkFits net
+  pub labels : Formed s
+  pub one-map : junctionsOf net ≡ junctionsOf s
+  pub joins : every (roadJoins net s) (roadsOf net) ≡ true
+
+-- What is worked out once per call: depths, starts, and the roads at each junction
+pub record Tables (net s depths starts heads nexts : List ℕ) : Type 0 where
+  pub depths-filled : DepthsFilled s depths
+  pub starts-filled : StartsFilled s starts
+  pub grouped : Grouped net heads nexts

@@ -6,4 +6,5 @@ pub mod LabelFile
 pub mod Forest
 pub mod Stored
 pub mod LabelForm
+pub mod Roads
 pub mod Formed

@@ -11,6 +11,7 @@ pub mod Local
 pub mod Answers
 pub mod OneLimit
 pub mod Cuts
+pub mod CutSums
 pub mod Route
 pub mod RouteStep
 pub mod Forest

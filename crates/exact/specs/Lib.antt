@@ -1,0 +1,3 @@
+-- Number 18: is every stored list the trade-off list of its two junctions?
+pub mod Right
+pub mod Sweep

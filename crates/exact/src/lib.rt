@@ -1,0 +1,1 @@
+// Is every stored list the trade-off list of its two junctions? Labels are their own certificate.
