@@ -1,0 +1,14 @@
+-- Check: "the number alone" (document 01, "Refusal numbers and their order").
+use mathlib.Core.Path.{_≡_}
+use mathlib.Core.List.{List}
+use Prim.Native.Nat.{ℕ}
+use Rattle.files.specs.NetworkFile.{netNumber}
+use Rattle.files.specs.LabelForm.{formBeside}
+use Rattle.exact.specs.Right.{EveryListRight}
+
+-- The network's number, then the labels', then 18: "given exactly if all before it pass and a list differs from the definition"
+pub data Checked (net s : List ℕ) (number : ℕ) : Type 0 where
+  network-refused : (netNumber net ≡ 0 → ⊥) → number ≡ netNumber net → Checked net s number
+  labels-refused : netNumber net ≡ 0 → (formBeside net s ≡ 0 → ⊥) → number ≡ formBeside net s → Checked net s number
+  list-wrong : netNumber net ≡ 0 → formBeside net s ≡ 0 → (EveryListRight net s → ⊥) → number ≡ 18 → Checked net s number
+  accepted : netNumber net ≡ 0 → formBeside net s ≡ 0 → EveryListRight net s → number ≡ 0 → Checked net s number

@@ -1,0 +1,6 @@
+-- What a query on an accepted set answers. Read in this order.
+pub mod Ready
+pub mod Answers
+pub mod Meeting
+pub mod Reach
+pub mod Written

@@ -1,0 +1,26 @@
+-- Where two branches meet: the deepest common ancestor, and the marks of the hoplinks above it.
+use mathlib.Core.Path.{_≡_}
+use mathlib.Core.List.{List}
+use Prim.Native.Nat.{ℕ, _-_, _≤_, _<_}
+use lib.ListN.{length, getD}
+use Rattle.paths.specs.Forest.{Common, Deepest, WorkingSet}
+use Rattle.files.specs.NetworkFile.{networkOf, junctionsOf}
+use Rattle.files.specs.LabelFile.{parentsOf}
+use Rattle.files.specs.Forest.{depthOf, ancestorOf}
+use Rattle.query.specs.declared.Meeting.{Meeting}
+use Rattle.query.specs.declared.Meeting.the-variants.{At, Nowhere}
+
+pub record MeetsAt (s : List ℕ) (x y l : ℕ) : Type 0 where
+  pub on-map : l < junctionsOf s
+  pub deepest : Deepest (parentsOf s) x y l
+
+-- The deepest common ancestor of x and y, or none is common
+abbrev pub Meets : List ℕ → ℕ → ℕ → Meeting → Type 0
+Meets s x y (At l) = MeetsAt s x y l
+Meets s x y Nowhere = (u : ℕ) → Common (parentsOf s) x y u → ⊥
+
+-- By depth: 1 for the ancestors of l that are in its working set (the hoplinks, where l is the deepest common ancestor)
+pub record HopMarks (net s : List ℕ) (l : ℕ) (marks : List ℕ) : Type 0 where
+  pub marks-length : length marks ≡ 1024
+  pub marked : (k : ℕ) → k ≤ depthOf s l → getD marks k 0 ≡ 1 → WorkingSet (networkOf net) (parentsOf s) l (ancestorOf s l (depthOf s l - k))
+  pub all-marked : (k : ℕ) → k ≤ depthOf s l → WorkingSet (networkOf net) (parentsOf s) l (ancestorOf s l (depthOf s l - k)) → getD marks k 0 ≡ 1

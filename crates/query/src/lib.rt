@@ -1,0 +1,18 @@
+// Queries on an accepted label set, with the tables of one call at hand: the best answer under a limit, the whole trade-off list,
+// the first route. Every function here stands on an accepted set, so that ten thousand queries cost one check.
+use paths::energy::Energy;
+use paths::seconds::Seconds;
+
+// The answer to a limited query: the best pair, or why there is none.
+pub enum Answer {
+    Found(Seconds, Energy),
+    OffMap,
+    NotConnected,
+    OverLimit,
+}
+
+// Where two branches of the forest meet.
+pub enum Meeting {
+    At(usize),
+    Nowhere,
+}
