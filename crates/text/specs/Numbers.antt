@@ -1,0 +1,42 @@
+-- Decimal numbers (document 01, "Program `answer`": "three decimal numbers up to 4,294,967,295, no leading zeros, one space
+-- between [...]. All text read, here or later, keeps these rules of numbers, spaces and line ends.").
+use mathlib.Core.Path.{_≡_}
+use mathlib.Core.List.{List, [], _∷_, _++_, List·Memᴰ}
+use Prim.Native.Nat.{ℕ, _+_, _-_, _*_, _≤_}
+use lib.ListN.{length, getD}
+
+abbrev pub zeroByte : ℕ
+zeroByte = 48
+
+abbrev pub nineByte : ℕ
+nineByte = 57
+
+abbrev pub spaceByte : ℕ
+spaceByte = 32
+
+-- The number that digits spell after a value already read, the most significant first
+unfoldable pub valueAfter : ℕ → List ℕ → ℕ
+valueAfter value [] = value
+valueAfter value (digit ∷ digits) = valueAfter (10 * value + (digit - zeroByte)) digits
+
+pub record IsDigit (byte : ℕ) : Type 0 where
+  pub from-zero : zeroByte ≤ byte
+  pub to-nine : byte ≤ nineByte
+
+-- The bytes spell the number: digits alone, one at least, no leading zero, at most 4,294,967,295
+pub record IsNumeral (bytes : List ℕ) (number : ℕ) : Type 0 where
+  pub some-digit : 1 ≤ length bytes
+  pub digits : (byte : ℕ) → List·Memᴰ byte bytes → IsDigit byte
+  pub no-leading-zero : 2 ≤ length bytes → getD bytes 0 0 ≡ zeroByte → ⊥
+  pub value : valueAfter 0 bytes ≡ number
+  pub fits : number ≤ 4294967295
+
+-- A query line: three numbers, "one space between"
+pub record IsQuery (line : List ℕ) (s t C : ℕ) : Type 0 where
+  pub first : List ℕ
+  pub second : List ℕ
+  pub third : List ℕ
+  pub spaced : line ≡ first ++ (spaceByte ∷ (second ++ (spaceByte ∷ third)))
+  pub first-is : IsNumeral first s
+  pub second-is : IsNumeral second t
+  pub third-is : IsNumeral third C
