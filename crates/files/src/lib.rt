@@ -1,1 +1,4 @@
 // The network file and the label file: every byte has one reading.
+pub mod bytes;
+pub mod network;
+pub mod versions;

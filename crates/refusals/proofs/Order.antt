@@ -68,10 +68,10 @@ module _ (test : ℕ → Bool) where
 
 -- ---- The first fault
 
-decided-zero : {number next : ℕ} → number ≡ 0 → decided number next ≡ next
+pub decided-zero : {number next : ℕ} → number ≡ 0 → decided number next ≡ next
 decided-zero e = rw e
 
-decided-more : {number : ℕ} (next : ℕ) → (number ≡ 0 → ⊥) → decided number next ≡ number
+pub decided-more : {number : ℕ} (next : ℕ) → (number ≡ 0 → ⊥) → decided number next ≡ number
 decided-more {number = zero} next h = absurd (h refl)
 decided-more {number = suc number} next h = refl
 
