@@ -4,3 +4,7 @@ pub mod FaultLoop
 pub mod NetworkTests
 pub mod Accepted
 pub mod Arcs
+pub mod Chains
+pub mod Forest
+pub mod Pigeonhole
+pub mod ParentLoops

@@ -10,3 +10,4 @@ pub mod Stored
 pub mod LabelForm
 pub mod Roads
 pub mod Formed
+pub mod ParentsRead
