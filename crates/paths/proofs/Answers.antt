@@ -1,16 +1,16 @@
 -- What a trade-off list says of limited queries: the best answer is an entry, and exactly one of the three answers holds.
--- In this order: a best answer is unbeaten; answers by a list; exactly one outcome.
-use mathlib.Core.Path.{_≡_, refl, sym, ap, _∙_}
-use mathlib.Core.Logic.{_⊎_, inl, inr, ⊎-elim}
+-- In this order: the search of a list; a best answer is unbeaten; answers by a list; exactly one outcome; sums of two lists.
+use mathlib.Core.Path.{refl, sym}
+use mathlib.Core.Logic.{⊎-elim}
 use mathlib.Core.List.{List, [], _∷_, List·Memᴰ, List·Memᴰ·head, List·Memᴰ·tail, List·Memᴰ·cases-cons, List·Memᴰ·not-nil}
 use Prim.Native.Nat.{ℕ}
 use Rattle.paths.specs.Figures.{Figures, Lawful}
-use Rattle.paths.specs.Weights.{weights, spent, Within, NotLater, same, sooner}
-use Rattle.paths.specs.Network.{Network, Walk, weight}
-use Rattle.paths.specs.TradeOff.{Skyline, IsTradeOff}
-use Rattle.paths.specs.Answer.{Best, Over, Apart}
-use Rattle.paths.proofs.Weights.{weights-lawful, ⊑-of-eq, ⊑-notLater, notLater-antisym, notLater-trans, compare-answers}
-use Rattle.paths.proofs.Covering.{TradeOffs, walk-covered}
+use Rattle.paths.specs.Weights.{weights, spent, Covered, Within, NotLater, same, sooner}
+use Rattle.paths.specs.Network.{Network, Walk, stay, weight}
+use Rattle.paths.specs.TradeOff.{Skyline, IsTradeOff, IsJoin}
+use Rattle.paths.specs.Answer.{Best, Over, Apart, BestSum, NoSum}
+use Rattle.paths.proofs.Weights.{weights-lawful, ⊑-notLater, notLater-antisym, notLater-trans, compare-answers}
+use Rattle.paths.proofs.Covering.{TradeOffs, walk-covered, sum-covered}
 
 module _ (𝓛 : Figures) where
   -- the entry of l that is the best within C
@@ -41,24 +41,17 @@ module _ {𝓛 : Figures} (lawful : Lawful 𝓛) where
 
   open Figures (weights 𝓛) using (Figure as Weight)
 
-  pub search-list : (l : List Weight) (C : 𝓛 .Figure) → Searched 𝓛 l C
+  unfoldable pub search-list : (l : List Weight) (C : 𝓛 .Figure) → Searched 𝓛 l C
+  unfolding compare-answers
   search-list [] C = none-within (λ q m h. List·Memᴰ·not-nil m)
   search-list (x ∷ l) C = pick (lawful .⊑-decide (spent 𝓛 x) C) (search-list l C)
     where
-      alone : Within 𝓛 C x → ((q : Weight) → List·Memᴰ q l → Within 𝓛 C q → ⊥) → BestEntry 𝓛 (x ∷ l) C x
-      alone h none =
+      ahead : Within 𝓛 C x → ((q : Weight) → List·Memᴰ q l → Within 𝓛 C q → NotLater 𝓛 x q) → BestEntry 𝓛 (x ∷ l) C x
+      ahead h first =
           record {
             member = List·Memᴰ·head refl;
             within = h;
-            least = λ {q} m k. ⊎-elim (λ e. same (sym e)) (λ m′. absurd (none q m′ k)) (List·Memᴰ·cases-cons m);
-          }
-
-      ahead : {p : Weight} → Within 𝓛 C x → BestEntry 𝓛 l C p → NotLater 𝓛 x p → BestEntry 𝓛 (x ∷ l) C x
-      ahead h b first =
-          record {
-            member = List·Memᴰ·head refl;
-            within = h;
-            least = λ {q} m k. ⊎-elim (λ e. same (sym e)) (λ m′. notLater-trans lawful first (b .least m′ k)) (List·Memᴰ·cases-cons m);
+            least = λ {q} m k. ⊎-elim (λ e. same (sym e)) (λ m′. first q m′ k) (List·Memᴰ·cases-cons m);
           }
 
       behind : {p : Weight} → BestEntry 𝓛 l C p → (Within 𝓛 C x → NotLater 𝓛 p x) → BestEntry 𝓛 (x ∷ l) C p
@@ -73,10 +66,23 @@ module _ {𝓛 : Figures} (lawful : Lawful 𝓛) where
       nothing out none q m k = ⊎-elim (λ e. out (rw e at k)) (λ m′. none q m′ k) (List·Memᴰ·cases-cons m)
 
       pick : Dec (Within 𝓛 C x) → Searched 𝓛 l C → Searched 𝓛 (x ∷ l) C
-      pick (yes h) (none-within none) = found (alone h none)
+      pick (yes h) (none-within none) = found (ahead h (λ q m k. absurd (none q m k)))
       pick (no h) (none-within none) = none-within (nothing h none)
       pick (no h) (found b) = found (behind b (λ k. absurd (h k)))
-      pick (yes h) (found {p} b) = ⊎-elim (λ f. found (ahead h b f)) (λ f. found (behind b (λ k. sooner f))) (compare-answers lawful x p)
+      pick (yes h) (found {p} b) =
+          ⊎-elim
+          (λ f. found (ahead h (λ q m k. notLater-trans lawful f (b .least m k))))
+          (λ f. found (behind b (λ k. sooner f)))
+          (compare-answers lawful x p)
+
+  module _ {l : List Weight} {C : 𝓛 .Figure} {q : Weight} (covered : Covered 𝓛 l q) (h : Within 𝓛 C q) where
+    -- the best entry is not later than what lies above an entry
+    pub entry-not-later : {p : Weight} → BestEntry 𝓛 l C p → NotLater 𝓛 p q
+    entry-not-later b =
+        notLater-trans lawful (b .least (covered .member) (lawful .⊑-trans (covered .has .0) h)) (⊑-notLater lawful (covered .has))
+
+    pub entry-within : ((p : Weight) → List·Memᴰ p l → Within 𝓛 C p → ⊥) → ⊥
+    entry-within none = none (covered .entry) (covered .member) (lawful .⊑-trans (covered .has .0) h)
 
   module _ {𝓝 : Network 𝓛} {s t : ℕ} {C : 𝓛 .Figure} where
     -- what beats an answer is within the limit too, and not later
@@ -101,17 +107,16 @@ module _ {𝓛 : Figures} (lawful : Lawful 𝓛) where
       pub entry-is-best : {p : Weight} → BestEntry 𝓛 l C p → Best 𝓝 s t C p
       entry-is-best {p} b =
           let z = right .real (b .member) in
-          record { walk = z .walk; weighs = z .weighs; within = b .within; least = least }
-        where
-          least : (other : Walk 𝓝 s t) → Within 𝓛 C (weight other) → NotLater 𝓛 p (weight other)
-          least other k =
-              let c = walk-covered lawful right other in
-              notLater-trans lawful (b .least (c .member) (lawful .⊑-trans (c .has .0) k)) (⊑-notLater lawful (c .has))
+          record {
+            walk = z .walk;
+            weighs = z .weighs;
+            within = b .within;
+            least = λ other h. entry-not-later (walk-covered lawful right other) h b;
+          }
 
       -- no entry within C, no walk within C
       pub none-within-list : ((q : Weight) → List·Memᴰ q l → Within 𝓛 C q → ⊥) → (other : Walk 𝓝 s t) → Within 𝓛 C (weight other) → ⊥
-      none-within-list none other k =
-          let c = walk-covered lawful right other in none (c .entry) (c .member) (lawful .⊑-trans (c .has .0) k)
+      none-within-list none other k = entry-within (walk-covered lawful right other) k none
 
     -- For all s, t, C one of the three holds
     pub outcome : TradeOffs 𝓝 s t → Outcome 𝓝 s t C
@@ -141,3 +146,30 @@ module _ {𝓛 : Figures} (lawful : Lawful 𝓛) where
       pick (answered b) = record { weighs = _; best = b }
       pick (over no-way) = absurd (no-way .none-within w h)
       pick (apart none) = absurd (none w)
+
+  -- "s = t [...]: (0,0)", under any limit
+  pub alone-best : {𝓝 : Network 𝓛} (s : ℕ) (C : 𝓛 .Figure) → Best 𝓝 s s C (weights 𝓛 .𝟘)
+  unfolding weight
+  alone-best s C =
+      record {
+        walk = stay;
+        weighs = refl;
+        within = lawful .𝟘-least C;
+        least = λ other h. ⊑-notLater lawful (W .𝟘-least (weight other));
+      }
+
+  -- ---- Sums of two lists under a limit
+
+  module _ {k l r : List Weight} {C : 𝓛 .Figure} (right : IsJoin 𝓛 k l r) where
+    -- The best entry of the join is the best sum
+    pub entry-is-best-sum : {p : Weight} → BestEntry 𝓛 r C p → BestSum 𝓛 k l C p
+    entry-is-best-sum b =
+        record {
+          sum = right .real (b .member) .sum;
+          within = b .within;
+          least = λ q z h. entry-not-later (sum-covered lawful right z) h b;
+        }
+
+    -- no entry within C, no sum within C
+    pub none-within-join : ((q : Weight) → List·Memᴰ q r → Within 𝓛 C q → ⊥) → NoSum 𝓛 k l C
+    none-within-join none p z h = entry-within (sum-covered lawful right z) h none

@@ -1,7 +1,7 @@
 -- Where each road joins an ancestor and a descendant, a walk leaves or enters a subtree only through the junctions above its top.
 -- In this order: an arc that changes sides; leaving and entering a subtree; common ancestors; branches and hoplinks; the ends.
 use mathlib.Core.Path.{_≡_, refl}
-use mathlib.Core.Logic.{_⊎_, inl, inr, ⊎-elim}
+use mathlib.Core.Logic.{_⊎_, inl, inr, ⊎-elim, by-cases}
 use mathlib.Core.Option.{some}
 use mathlib.Core.List.{List·Memᴰ, List·Memᴰ·head, List·Memᴰ·tail}
 use Prim.Native.Nat.{ℕ}
@@ -91,11 +91,7 @@ module _ {𝓛 : Figures} {𝓝 : Network 𝓛} (parent : Parents) (joined : Roa
 
   -- every junction stands on one side
   below-or-not : (c x : ℕ) → Ancestor parent c x ⊎ (Ancestor parent c x → ⊥)
-  below-or-not c x = pick (ancestor? forest c x)
-    where
-      pick : Dec (Ancestor parent c x) → Ancestor parent c x ⊎ (Ancestor parent c x → ⊥)
-      pick (yes h) = inl h
-      pick (no n) = inr n
+  below-or-not c x = by-cases (ancestor? forest c x) inl inr
 
   -- a walk out of the subtree of c meets a proper ancestor of c that has a road to c or below it
   pub leaves-subtree : {c s t : ℕ} → Ancestor parent c s → (Ancestor parent c t → ⊥) → (w : Walk 𝓝 s t) → Meets 𝓝 (Crosses 𝓝 parent c) w

@@ -2,7 +2,7 @@
 -- In this order: walks by their inner junctions; a covering list is enough; no inner junction; one junction more; all junctions;
 -- networks of listed roads.
 use mathlib.Core.Path.{_≡_, refl, sym, ap, ap₂, _∙_}
-use mathlib.Core.Logic.{_⊎_, inl, inr, ⊎-elim}
+use mathlib.Core.Logic.{_⊎_, inl, inr, ⊎-elim, Dec·and}
 use mathlib.Core.List.{List, [], _∷_, _++_, map, List·Memᴰ, List·Memᴰ·cases-cons, List·Memᴰ·not-nil, List·Memᴰ·append-cases, Memᴰ·append-left, Memᴰ·append-right, Memᴰ·map}
 use Prim.Native.Nat.{ℕ, _≤_}
 use native.Mathlib.Decide.{ℕ-discrete, decLe}
@@ -11,10 +11,10 @@ use Rattle.paths.specs.Weights.{Found, Covered, weights, energy, time}
 use Rattle.paths.specs.Network.{Network, Hop, Walk, stay, go, Finite, weight}
 use Rattle.paths.specs.TradeOff.{IsSum}
 use Rattle.paths.specs.Examples.{Road, bothWays, networkOf}
-use Rattle.paths.proofs.Weights.{weights-lawful, ⊑-of-eq, ⊕-mono-both, ⊕-mono-right, part-⊑-right, ⊑-then-beats}
+use Rattle.paths.proofs.Weights.{weights-lawful, ⊑-of-eq, ⊕-mono-both, ⊕-mono-right, part-⊑-right}
 use Rattle.paths.proofs.Walks.{WalkOf, single, _then_, weight-one, weight-then}
-use Rattle.paths.proofs.Covering.{TradeOffs}
-use Rattle.paths.proofs.Skyline.{Listing, listing-if, listing-gather, listing-chosen, listing-sums, skylineOf, skylineOf-holds}
+use Rattle.paths.proofs.Covering.{TradeOffs, covered-more, covering-is-tradeOff}
+use Rattle.paths.proofs.Skyline.{Listing, listing-if, listing-gather, listing-chosen, listing-sums, skylineOf}
 
 module _ {𝓛 : Figures} (𝓝 : Network 𝓛) where
   open Figures (weights 𝓛) using (Figure as Weight)
@@ -68,22 +68,10 @@ module _ {𝓛 : Figures} (lawful : Lawful 𝓛) where
         record {
           list = z .list;
           is-tradeOff =
-              record {
-                rising = z .rising;
-                real =
-                    λ {p} k.
-                    let walked = taken p (z .from k) in
-                    record {
-                      walk = walked .walk;
-                      weighs = walked .weighs;
-                      unbeaten = λ other b. let f = covers other in z .unbeaten k (f .member) (⊑-then-beats lawful (f .has) b);
-                    };
-                complete =
-                    λ sky.
-                    skylineOf-holds lawful z
-                    (rw (sky .weighs) at (covers (sky .walk)))
-                    (λ q k b. let walked = taken q k in sky .unbeaten (walked .walk) (rw (walked .weighs) b));
-              };
+              covering-is-tradeOff lawful (z .rising)
+              (λ p k. taken p (z .from k))
+              (λ p q j k b. z .unbeaten k (z .from j) b)
+              (λ w. let f = covers w in covered-more lawful (z .covers (f .member)) (f .has));
         }
 
     -- no inner junction: to stay, or one arc
@@ -93,12 +81,7 @@ module _ {𝓛 : Figures} (lawful : Lawful 𝓛) where
       Leads s t h = (h .from ≡ s) × (h .to ≡ t)
 
       leads? : (s t : ℕ) (h : Hop 𝓛) → Dec (Leads s t h)
-      leads? s t h = both (ℕ-discrete (h .from) s) (ℕ-discrete (h .to) t)
-        where
-          both : Dec (h .from ≡ s) → Dec (h .to ≡ t) → Dec (Leads s t h)
-          both (yes e) (yes f) = yes (e, f)
-          both (yes e) (no n) = no (λ j. n (j .1))
-          both (no n) d = no (λ j. n (j .0))
+      leads? s t h = Dec·and (ℕ-discrete (h .from) s) (ℕ-discrete (h .to) t)
 
       staying : (s t : ℕ) → Listing (λ p. (s ≡ t) × (p ≡ 𝟘))
       staying s t = listing-if (ℕ-discrete s t) 𝟘
@@ -216,8 +199,8 @@ module _ {𝓛 : Figures} (lawful : Lawful 𝓛) where
         tradeOff-of-cover (c .list) (λ p m. c .real m) (λ w. let z = followed finite w in rw (z .weighs) at (c .covers (z .via)))
 
 -- A network of listed roads has finitely many arcs: those of its list that take time
-pub listed-finite : (roads : List Road) → Finite (networkOf roads)
-unfolding networkOf
+unfoldable pub listed-finite : (roads : List Road) → Finite (networkOf roads)
+unfolding networkOf bothWays listing-chosen decLe
 listed-finite roads =
     let slow = listing-chosen (λ h. 1 ≤ time energy (h .weighs)) (λ h. decLe 1 (time energy (h .weighs))) (bothWays 0 roads) in
     record {

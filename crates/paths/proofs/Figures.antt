@@ -1,14 +1,15 @@
 -- The laws of figures hold of one number, and of two figures side by side if they hold of each.
 -- In this order: one number; two figures.
-use mathlib.Core.Path.{_≡_, refl, sym, ap, ap₂, _∙_}
-use mathlib.Core.Logic.{_⊎_, inl, inr, ⊎-elim}
+use mathlib.Core.Path.{_≡_, sym, ap, _∙_}
+use mathlib.Core.Logic.{_⊎_, inl, inr, ⊎-elim, by-cases, Dec·and}
 use Prim.Native.Nat.{ℕ, _+_, _-_, _≤_, _<_}
 use native.Mathlib.Nat.{add-assoc, add-comm, add-zero, le-of-eq, le-of-lt}
 use native.Mathlib.Decide.{decLe}
 use native.Mathlib.Omega.{arith}
 use Rattle.paths.specs.Figures.{Figures, number, Both, FirstThenSecond, by-first, by-second, _and_, Lawful}
 
-compare-numbers : (a b : ℕ) → (a < b) ⊎ ((a ≡ b) ⊎ (b < a))
+unfoldable pub compare-numbers : (a b : ℕ) → (a < b) ⊎ ((a ≡ b) ⊎ (b < a))
+unfolding decLe
 compare-numbers a b = pick (decLe a b) (decLe b a)
   where
     pick : Dec (a ≤ b) → Dec (b ≤ a) → (a < b) ⊎ ((a ≡ b) ⊎ (b < a))
@@ -16,7 +17,9 @@ compare-numbers a b = pick (decLe a b) (decLe b a)
     pick (yes h) (no k) = inl (omega arith)
     pick (no h) k = inr (inr (omega arith))
 
-pub number-lawful : Lawful number
+-- (unfoldable, as all that decides is: a decision on closed data then computes)
+unfoldable pub number-lawful : Lawful number
+unfolding compare-numbers decLe
 number-lawful =
     record {
       ⊕-assoc = add-assoc;
@@ -41,46 +44,36 @@ number-lawful =
     }
 
 size-below : {𝓒 : Figures} (K : Lawful 𝓒) {a b : 𝓒 .Figure} → 𝓒 ._⊑_ a b → K .size a ≤ K .size b
-size-below {𝓒} K {a} {b} h = pick (K .⊑-decide b a)
-  where
-    pick : Dec (𝓒 ._⊑_ b a) → K .size a ≤ K .size b
-    pick (yes k) = le-of-eq (ap (K .size) (K .⊑-antisym h k))
-    pick (no k) = le-of-lt (K .size-falls h (λ e. k (rw e (K .⊑-refl b))))
+size-below K {a} {b} h =
+    by-cases (K .⊑-decide b a)
+    (λ k. le-of-eq (ap (K .size) (K .⊑-antisym h k)))
+    (λ k. le-of-lt (K .size-falls h (λ e. k (rw e (K .⊑-refl b)))))
 
 module _ {𝓐 𝓑 : Figures} (A : Lawful 𝓐) (B : Lawful 𝓑) where
   abbrev AB : Type 0
   AB = Both (𝓐 .Figure) (𝓑 .Figure)
 
-  both-path : {p q : AB} → p .first ≡ q .first → p .second ≡ q .second → p ≡ q
+  pub both-path : {p q : AB} → p .first ≡ q .first → p .second ≡ q .second → p ≡ q
   both-path e f = λ i. record { first = e i; second = f i }
 
   -- where both are no larger and the pairs differ, one of the two figures differs
   differ : {p q : AB} → (𝓐 and 𝓑) ._⊑_ p q → (p ≡ q → ⊥) → ((p .first ≡ q .first → ⊥) ⊎ ((p .first ≡ q .first) × (p .second ≡ q .second → ⊥)))
-  differ {p} {q} h n = pick (A .⊑-decide (q .first) (p .first))
-    where
-      pick : Dec (𝓐 ._⊑_ (q .first) (p .first)) → ((p .first ≡ q .first → ⊥) ⊎ ((p .first ≡ q .first) × (p .second ≡ q .second → ⊥)))
-      pick (yes k) = inr (A .⊑-antisym (h .0) k, λ e. n (both-path (A .⊑-antisym (h .0) k) e))
-      pick (no k) = inl (λ e. k (rw e (A .⊑-refl (q .first))))
+  differ {p} {q} h n =
+      by-cases (A .⊑-decide (q .first) (p .first))
+      (λ k. inr (A .⊑-antisym (h .0) k, λ e. n (both-path (A .⊑-antisym (h .0) k) e)))
+      (λ k. inl (λ e. k (rw e (A .⊑-refl (q .first)))))
 
-  decide-both : (p q : AB) → Dec ((𝓐 and 𝓑) ._⊑_ p q)
-  decide-both p q = pick (A .⊑-decide (p .first) (q .first)) (B .⊑-decide (p .second) (q .second))
-    where
-      pick : Dec (𝓐 ._⊑_ (p .first) (q .first)) → Dec (𝓑 ._⊑_ (p .second) (q .second)) → Dec ((𝓐 and 𝓑) ._⊑_ p q)
-      pick (yes h) (yes k) = yes (h, k)
-      pick (yes h) (no k) = no (λ z. k (z .1))
-      pick (no h) k = no (λ z. h (z .0))
-
-  irrefl-both : {p q : AB} → FirstThenSecond 𝓐 𝓑 p q → p ≡ q → ⊥
+  pub irrefl-both : {p q : AB} → FirstThenSecond 𝓐 𝓑 p q → p ≡ q → ⊥
   irrefl-both (by-first h) e = A .≺-irrefl h (ap (λ z. z .first) e)
   irrefl-both (by-second e′ h) e = B .≺-irrefl h (ap (λ z. z .second) e)
 
-  trans-both : {p q r : AB} → FirstThenSecond 𝓐 𝓑 p q → FirstThenSecond 𝓐 𝓑 q r → FirstThenSecond 𝓐 𝓑 p r
+  pub trans-both : {p q r : AB} → FirstThenSecond 𝓐 𝓑 p q → FirstThenSecond 𝓐 𝓑 q r → FirstThenSecond 𝓐 𝓑 p r
   trans-both (by-first h) (by-first k) = by-first (A .≺-trans h k)
   trans-both (by-first h) (by-second e k) = by-first (rw e at h)
   trans-both (by-second e h) (by-first k) = by-first (rw e k)
   trans-both (by-second e h) (by-second f k) = by-second (e ∙ f) (B .≺-trans h k)
 
-  compare-both : (p q : AB) → FirstThenSecond 𝓐 𝓑 p q ⊎ ((p ≡ q) ⊎ FirstThenSecond 𝓐 𝓑 q p)
+  unfoldable pub compare-both : (p q : AB) → FirstThenSecond 𝓐 𝓑 p q ⊎ ((p ≡ q) ⊎ FirstThenSecond 𝓐 𝓑 q p)
   compare-both p q = pick (A .≺-compare (p .first) (q .first)) (B .≺-compare (p .second) (q .second))
     where
       pick :
@@ -93,24 +86,23 @@ module _ {𝓐 𝓑 : Figures} (A : Lawful 𝓐) (B : Lawful 𝓑) where
       pick (inr (inl e)) (inr (inr k)) = inr (inr (by-second (sym e) k))
       pick (inr (inr h)) k = inr (inr (by-first h))
 
-  mono-both : {p q : AB} (c : AB) → FirstThenSecond 𝓐 𝓑 p q → FirstThenSecond 𝓐 𝓑 ((𝓐 and 𝓑) ._⊕_ p c) ((𝓐 and 𝓑) ._⊕_ q c)
+  pub mono-both : {p q : AB} (c : AB) → FirstThenSecond 𝓐 𝓑 p q → FirstThenSecond 𝓐 𝓑 ((𝓐 and 𝓑) ._⊕_ p c) ((𝓐 and 𝓑) ._⊕_ q c)
   mono-both c (by-first h) = by-first (A .≺-mono (c .first) h)
   mono-both c (by-second e h) = by-second (ap (λ z. 𝓐 ._⊕_ z (c .first)) e) (B .≺-mono (c .second) h)
 
-  earlier-both : {p q : AB} → (𝓐 and 𝓑) ._⊑_ p q → (p ≡ q → ⊥) → FirstThenSecond 𝓐 𝓑 p q
+  pub earlier-both : {p q : AB} → (𝓐 and 𝓑) ._⊑_ p q → (p ≡ q → ⊥) → FirstThenSecond 𝓐 𝓑 p q
   earlier-both {p} {q} h n =
       ⊎-elim (λ d. by-first (A .⊑-earlier (h .0) d)) (λ d. by-second (d .0) (B .⊑-earlier (h .1) (d .1))) (differ h n)
 
-  falls-both : {p q : AB} → (𝓐 and 𝓑) ._⊑_ p q → (p ≡ q → ⊥) → A .size (p .first) + B .size (p .second) < A .size (q .first) + B .size (q .second)
-  falls-both {p} {q} h n = ⊎-elim one two (differ h n)
-    where
-      one : (p .first ≡ q .first → ⊥) → A .size (p .first) + B .size (p .second) < A .size (q .first) + B .size (q .second)
-      one d = omega (arith, A .size-falls (h .0) d, size-below B (h .1))
+  pub falls-both : {p q : AB} → (𝓐 and 𝓑) ._⊑_ p q → (p ≡ q → ⊥) → A .size (p .first) + B .size (p .second) < A .size (q .first) + B .size (q .second)
+  falls-both h n =
+      ⊎-elim
+      (λ d. omega (arith, A .size-falls (h .0) d, size-below B (h .1)))
+      (λ d. omega (arith, B .size-falls (h .1) (d .1), size-below A (h .0)))
+      (differ h n)
 
-      two : (p .first ≡ q .first) × (p .second ≡ q .second → ⊥) → A .size (p .first) + B .size (p .second) < A .size (q .first) + B .size (q .second)
-      two d = omega (arith, B .size-falls (h .1) (d .1), size-below A (h .0))
-
-  pub and-lawful : Lawful (𝓐 and 𝓑)
+  unfoldable pub and-lawful : Lawful (𝓐 and 𝓑)
+  unfolding compare-both Dec·and
   and-lawful =
       record {
         ⊕-assoc = λ p q r. both-path (A .⊕-assoc _ _ _) (B .⊕-assoc _ _ _);
@@ -119,7 +111,7 @@ module _ {𝓐 𝓑 : Figures} (A : Lawful 𝓐) (B : Lawful 𝓑) where
         ⊑-refl = λ p. (A .⊑-refl _, B .⊑-refl _);
         ⊑-trans = λ h k. (A .⊑-trans (h .0) (k .0), B .⊑-trans (h .1) (k .1));
         ⊑-antisym = λ h k. both-path (A .⊑-antisym (h .0) (k .0)) (B .⊑-antisym (h .1) (k .1));
-        ⊑-decide = decide-both;
+        ⊑-decide = λ p q. Dec·and (A .⊑-decide (p .first) (q .first)) (B .⊑-decide (p .second) (q .second));
         𝟘-least = λ p. (A .𝟘-least _, B .𝟘-least _);
         ⊕-mono = λ c h. (A .⊕-mono (c .first) (h .0), B .⊕-mono (c .second) (h .1));
         ⊕-cancel = λ c h. (A .⊕-cancel (c .first) (h .0), B .⊕-cancel (c .second) (h .1));

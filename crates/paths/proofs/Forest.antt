@@ -7,6 +7,7 @@ use Prim.Native.Nat.{ℕ, suc, _≤_, _<_}
 use native.Mathlib.Decide.{ℕ-discrete}
 use native.Mathlib.Omega.{arith}
 use Rattle.paths.specs.Forest.{Parents, Above, parent-is, parent-has, Ancestor, Depth, root, child, Returns, IsForest, Related, Common, Deepest}
+use Rattle.paths.proofs.Decisions.{map?, or?}
 
 module _ (parent : Parents) where
   -- The child of l on the branch of s
@@ -135,20 +136,10 @@ module _ {parent : Parents} where
       where
         climb : {x d : ℕ} → Depth parent x d → Dec (Above parent u x)
         climb (root e) = no (root-has-none e)
-        climb (child {v = x} {w = y} e h) = pick (ℕ-discrete u y) (climb h)
-          where
-            pick : Dec (u ≡ y) → Dec (Above parent u y) → Dec (Above parent u x)
-            pick (yes f) k = yes (above-child e (inl f))
-            pick (no f) (yes k) = yes (above-child e (inr k))
-            pick (no f) (no k) = no (λ a. ⊎-elim f k (ancestor-of-parent e a))
+        climb (child {w = y} e h) = map? (above-child e) (ancestor-of-parent e) (or? (ℕ-discrete u y) (climb h))
 
     pub ancestor? : (u v : ℕ) → Dec (Ancestor parent u v)
-    ancestor? u v = pick (ℕ-discrete u v) (above? u v)
-      where
-        pick : Dec (u ≡ v) → Dec (Above parent u v) → Dec (Ancestor parent u v)
-        pick (yes e) k = yes (inl e)
-        pick (no e) (yes k) = yes (inr k)
-        pick (no e) (no k) = no (⊎-elim e k)
+    ancestor? u v = or? (ℕ-discrete u v) (above? u v)
 
     -- from s up, the first that is an ancestor of t is the deepest common ancestor
     deepest-or-none : (s t : ℕ) → HasDeepest parent s t ⊎ (HasCommon parent s t → ⊥)

@@ -1,4 +1,5 @@
 -- The theory of weights, walks, trade-off lists, answers, routes, forests and cuts. Each file's first lines say what it shows.
+pub mod Decisions
 pub mod Figures
 pub mod Weights
 pub mod Walks
@@ -18,7 +19,5 @@ pub mod Forest
 pub mod Crossing
 pub mod TwoWay
 pub mod LabelTest
-pub mod Decisions
-pub mod Fronts
 pub mod Computed
 pub mod Examples

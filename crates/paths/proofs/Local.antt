@@ -3,18 +3,18 @@
 -- serves two-way labels (the deeper end) and one-way labels (up-lists at their start, down-lists at their finish).
 -- In this order: an arc taken off at a side; the test; what it shows; what shows it.
 use mathlib.Core.Path.{_≡_, refl, sym, ap, _∙_, subst}
-use mathlib.Core.Logic.{_↔_}
-use mathlib.Core.List.{List, [], _∷_, List·Memᴰ, List·Memᴰ·head, List·Memᴰ·eq-of-singleton, Memᴰ·cast}
-use Prim.Native.Nat.{ℕ, zero, suc, _+_, _≤_, _<_}
+use mathlib.Core.Logic.{_↔_, by-cases}
+use mathlib.Core.List.{List, [], _∷_, List·Memᴰ, List·Memᴰ·head, List·Memᴰ·eq-of-singleton}
+use Prim.Native.Nat.{ℕ, zero, suc, _≤_, _<_}
 use native.Mathlib.Decide.{ℕ-discrete}
 use native.Mathlib.Omega.{arith}
 use Rattle.paths.specs.Figures.{Figures, Lawful}
 use Rattle.paths.specs.Weights.{Covered, weights, time, Beats, Rising, one}
 use Rattle.paths.specs.Network.{Network, Walk, stay, go, weight}
-use Rattle.paths.specs.TradeOff.{Skyline, IsTradeOff}
-use Rattle.paths.proofs.Weights.{weights-lawful, ⊑-of-eq, unbeaten-below, ⊑-then-beats, ⊕-mono-right, beats-sum-right, beats-cast}
-use Rattle.paths.proofs.Walks.{WalkOf, _then_, arcs, single, Last, last, weight-then, weight-one, last-weighs}
-use Rattle.paths.proofs.Covering.{covered-more, walk-covered}
+use Rattle.paths.specs.TradeOff.{IsTradeOff}
+use Rattle.paths.proofs.Weights.{weights-lawful, ⊑-of-eq, ⊕-mono-right, beats-cast}
+use Rattle.paths.proofs.Walks.{WalkOf, _then_, arcs, single, last, weight-then, weight-one, last-weighs, rest-unbeaten}
+use Rattle.paths.proofs.Covering.{covered-more, walk-covered, tradeOff-none-beaten, covering-is-tradeOff}
 
 -- the end at which a walk is taken apart
 pub data Side : Type 0 where
@@ -116,12 +116,16 @@ module _ {𝓛 : Figures} (lawful : Lawful 𝓛) where
     module _ (P : ℕ → ℕ → Type 0) (side : ℕ → ℕ → Side) (L : ℕ → ℕ → List Weight) (labels : Labels 𝓝 P side L) where
       -- ---- What the test shows
 
+      only : {s t : ℕ} {p : Weight} → P s t → s ≡ t → List·Memᴰ p (L s t) → p ≡ 𝟘
+      only pair e m = List·Memᴰ·eq-of-singleton (rw (labels .alone pair e) at m)
+
       module _ (all : AllLocallyRight 𝓝 P side L) where
         -- every entry is a walk's weight: each arc takes a second, so taking arcs off ends
         member-walks : (n s t : ℕ) (p : Weight) → P s t → List·Memᴰ p (L s t) → time 𝓛 p < n → WalkOf 𝓝 s t p
         unfolding weight
         member-walks zero s t p pair m h = absurd (omega arith)
-        member-walks (suc n) s t p pair m h = pick (member-walks n) (ℕ-discrete s t)
+        member-walks (suc n) s t p pair m h =
+            by-cases (ℕ-discrete s t) here (λ apart. step (member-walks n) apart (all .test pair apart .sound m))
           where
             step : ((x y : ℕ) (q : Weight) → P x y → List·Memᴰ q (L x y) → time 𝓛 q < n → WalkOf 𝓝 x y q) → (s ≡ t → ⊥) → Met 𝓝 L (side s t) s t p → WalkOf 𝓝 s t p
             step below apart met =
@@ -130,14 +134,14 @@ module _ {𝓛 : Figures} (lawful : Lawful 𝓛) where
                 let whole = attach (met .peel) (rest .walk) in
                 record { walk = whole .walk; weighs = whole .weighs ∙ ap (λ z. met .arc ⊕ z) (rest .weighs) ∙ met .adds }
 
-            pick : ((x y : ℕ) (q : Weight) → P x y → List·Memᴰ q (L x y) → time 𝓛 q < n → WalkOf 𝓝 x y q) → Dec (s ≡ t) → WalkOf 𝓝 s t p
-            pick below (yes e) = let z = List·Memᴰ·eq-of-singleton (rw (labels .alone pair e) at m) in rw e (record { walk = stay; weighs = sym z })
-            pick below (no apart) = step below apart (all .test pair apart .sound m)
+            here : s ≡ t → WalkOf 𝓝 s t p
+            here e = let z = only pair e m in rw e (record { walk = stay; weighs = sym z })
 
         -- every walk's weight is covered
         walks-covered : (n s t : ℕ) → P s t → (k : Walk 𝓝 s t) → arcs k < n → Covered 𝓛 (L s t) (weight k)
         walks-covered zero s t pair k h = absurd (omega arith)
-        walks-covered (suc n) s t pair k h = pick (walks-covered n) (ℕ-discrete s t)
+        walks-covered (suc n) s t pair k h =
+            by-cases (ℕ-discrete s t) here (λ apart. step (walks-covered n) apart (peeled (side s t) k apart))
           where
             step : ((x y : ℕ) → P x y → (j : Walk 𝓝 x y) → arcs j < n → Covered 𝓛 (L x y) (weight j)) → (s ≡ t → ⊥) → Peeled 𝓝 (side s t) k → Covered 𝓛 (L s t) (weight k)
             step below apart z =
@@ -145,73 +149,44 @@ module _ {𝓛 : Figures} (lawful : Lawful 𝓛) where
                 let met = all .test pair apart .complete (z .peel) (rest .member) in
                 covered-more lawful met (W .⊑-trans (⊕-mono-right W (z .arc) (rest .has)) (⊑-of-eq W (z .adds)))
 
-            pick : ((x y : ℕ) → P x y → (j : Walk 𝓝 x y) → arcs j < n → Covered 𝓛 (L x y) (weight j)) → Dec (s ≡ t) → Covered 𝓛 (L s t) (weight k)
-            pick below (yes e) = record { entry = 𝟘; member = rw (labels .alone pair e) (List·Memᴰ·head refl); has = W .𝟘-least (weight k) }
-            pick below (no apart) = step below apart (peeled (side s t) k apart)
+            here : s ≡ t → Covered 𝓛 (L s t) (weight k)
+            here e = record { entry = 𝟘; member = rw (labels .alone pair e) (List·Memᴰ·head refl); has = W .𝟘-least (weight k) }
 
         -- no entry beats another, whichever way a pair stands
         entries-unbeaten : {s t : ℕ} → P s t → {p q : Weight} → List·Memᴰ p (L s t) → List·Memᴰ q (L s t) → Beats 𝓛 p q → ⊥
-        entries-unbeaten {s} {t} pair {p} {q} m k b = pick (ℕ-discrete s t)
-          where
-            only : s ≡ t → {r : Weight} → List·Memᴰ r (L s t) → r ≡ 𝟘
-            only e h = List·Memᴰ·eq-of-singleton (rw (labels .alone pair e) at h)
-
-            pick : Dec (s ≡ t) → ⊥
-            pick (yes e) = b .smaller (only e m ∙ sym (only e k))
-            pick (no apart) = all .test pair apart .unbeaten m k b
+        entries-unbeaten {s} {t} pair m k b =
+            by-cases (ℕ-discrete s t) (λ e. b .smaller (only pair e m ∙ sym (only pair e k))) (λ apart. all .test pair apart .unbeaten m k b)
 
         lists-rise : {s t : ℕ} → P s t → Rising 𝓛 (L s t)
-        lists-rise {s} {t} pair = pick (ℕ-discrete s t)
-          where
-            pick : Dec (s ≡ t) → Rising 𝓛 (L s t)
-            pick (yes e) = rw (labels .alone pair e) one
-            pick (no apart) = all .test pair apart .rising
+        lists-rise {s} {t} pair = by-cases (ℕ-discrete s t) (λ e. rw (labels .alone pair e) one) (λ apart. all .test pair apart .rising)
 
         -- Lists that pass the local test are the trade-off lists of their pairs
         pub local-test-shows : {s t : ℕ} → P s t → IsTradeOff 𝓝 s t (L s t)
-        local-test-shows {s} {t} pair = record { rising = lists-rise pair; real = real; complete = complete }
-          where
-            walks : {p : Weight} → List·Memᴰ p (L s t) → WalkOf 𝓝 s t p
-            walks {p} m = member-walks (suc (time 𝓛 p)) s t p pair m (omega arith)
-
-            covers : (k : Walk 𝓝 s t) → Covered 𝓛 (L s t) (weight k)
-            covers k = walks-covered (suc (arcs k)) s t pair k (omega arith)
-
-            real : {p : Weight} → List·Memᴰ p (L s t) → Skyline 𝓝 s t p
-            real {p} m =
-                record {
-                  walk = walks m .walk;
-                  weighs = walks m .weighs;
-                  unbeaten = λ other b. entries-unbeaten pair (covers other .member) m (⊑-then-beats lawful (covers other .has) b);
-                }
-
-            complete : {p : Weight} → Skyline 𝓝 s t p → List·Memᴰ p (L s t)
-            complete {p} sky =
-                let z = covers (sky .walk) in
-                let e : z .entry ≡ p = unbeaten-below lawful (W .⊑-trans (z .has) (⊑-of-eq W (sky .weighs))) (λ b. sky .unbeaten (walks (z .member) .walk) (rw (walks (z .member) .weighs) b)) in
-                Memᴰ·cast (sym e) (z .member)
+        local-test-shows {s} {t} pair =
+            covering-is-tradeOff lawful (lists-rise pair)
+            (λ p m. member-walks (suc (time 𝓛 p)) s t p pair m (omega arith))
+            (λ p q m k b. entries-unbeaten pair m k b)
+            (λ k. walks-covered (suc (arcs k)) s t pair k (omega arith))
 
       -- ---- What shows the test
 
       -- Trade-off lists pass the local test
       pub tradeOffs-pass : AllTradeOffs 𝓝 P L → {s t : ℕ} → P s t → (s ≡ t → ⊥) → LocallyRight 𝓝 L (side s t) s t
       tradeOffs-pass lists {s} {t} pair apart =
-          record { rising = lists .right pair .rising; unbeaten = unbeaten; sound = sound; complete = complete }
+          record {
+            rising = lists .right pair .rising;
+            unbeaten = tradeOff-none-beaten lawful (lists .right pair);
+            sound = sound;
+            complete = complete;
+          }
         where
-          unbeaten : {p q : Weight} → List·Memᴰ p (L s t) → List·Memᴰ q (L s t) → Beats 𝓛 p q → ⊥
-          unbeaten m k b = let z = lists .right pair .real m in lists .right pair .real k .unbeaten (z .walk) (rw (z .weighs) b)
-
           -- an unbeaten walk less an arc is unbeaten
           sound : {p : Weight} → List·Memᴰ p (L s t) → Met 𝓝 L (side s t) s t p
           sound {p} m =
               let sky = lists .right pair .real m in
               let z = peeled (side s t) (sky .walk) apart in
-              let rest : Skyline 𝓝 (z .from) (z .to) (weight (z .rest)) =
-              record {
-                walk = z .rest;
-                weighs = refl;
-                unbeaten = λ other b. let whole = attach (z .peel) other in sky .unbeaten (whole .walk) (beats-cast lawful (whole .weighs) (beats-sum-right lawful (z .arc) b) (z .adds ∙ sky .weighs));
-              } in
+              let rest =
+              rest-unbeaten lawful (z .arc) (z .rest) (attach (z .peel)) (λ other b. sky .unbeaten other (beats-cast lawful refl b (z .adds ∙ sky .weighs))) in
               record {
                 from = z .from;
                 to = z .to;

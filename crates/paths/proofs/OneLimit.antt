@@ -2,18 +2,19 @@
 -- no entry beats another; so the best answer under C is the last entry whose energy is at most C.
 -- In this order: the two orders are one; lists of definitions are ordered; the last entry within a limit.
 use mathlib.Core.Path.{_≡_, refl, sym, ap, _∙_}
-use mathlib.Core.Logic.{_⊎_, inl, inr, ⊎-elim, _↔_}
+use mathlib.Core.Logic.{_⊎_, inl, inr, _↔_}
 use mathlib.Core.List.{List, [], _∷_, _++_, List·Memᴰ, List·Memᴰ·head, List·Memᴰ·tail, List·Memᴰ·cases-cons, List·Memᴰ·not-nil, Memᴰ·append-right, List·Memᴰ·append-cases}
 use Prim.Native.Nat.{ℕ, _≤_, _<_}
 use native.Mathlib.Decide.{decLe}
 use native.Mathlib.Omega.{arith}
-use Rattle.paths.specs.Figures.{Figures, Lawful, by-first, by-second}
-use Rattle.paths.specs.Weights.{weights, energy, time, spent, pair, Beats, Within, Rising, NotLater, sooner, same, by-time, by-figures}
+use Rattle.paths.specs.Figures.{by-first, by-second}
+use Rattle.paths.specs.Weights.{weights, energy, time, spent, Beats, Within, Rising, NotLater, sooner, same, by-time, by-figures}
 use Rattle.paths.specs.Weights as Listed
 use Rattle.paths.specs.Network.{Network}
 use Rattle.paths.specs.TradeOff.{IsTradeOff, IsJoin, Ordered, none, one, more}
 use Rattle.paths.specs.Answer.{Best}
 use Rattle.paths.proofs.Figures.{number-lawful}
+use Rattle.paths.proofs.Covering.{tradeOff-none-beaten}
 use Rattle.paths.proofs.Answers.{BestEntry, best-is-entry, entry-is-best}
 
 abbrev Weight : Type 0
@@ -75,7 +76,7 @@ rises-ordered (Listed.more {p} {q} {l} h r) free = place h (rises-ordered r (λ 
 
 pub tradeOff-ordered : {𝓝 : Network energy} {s t : ℕ} {l : List Weight} → IsTradeOff 𝓝 s t l → Ordered l
 tradeOff-ordered right =
-    rises-ordered (right .rising) (λ p q m k b. let z = right .real m in right .real k .unbeaten (z .walk) (rw (z .weighs) b))
+    rises-ordered (right .rising) (λ p q m k b. tradeOff-none-beaten number-lawful right m k b)
 
 pub join-ordered : {k l r : List Weight} → IsJoin energy k l r → Ordered r
 join-ordered right = rises-ordered (right .rising) (λ p q m k b. right .real k .unbeaten p (right .real m .sum) b)

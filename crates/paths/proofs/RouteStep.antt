@@ -12,7 +12,8 @@ use Rattle.paths.specs.Weights.{weights}
 use Rattle.paths.specs.Network.{Network, Walk, stay, go, weight, junctions}
 use Rattle.paths.specs.TradeOff.{Skyline}
 use Rattle.paths.specs.Route.{NotAfter, ended, smaller, equal, FirstAmong, FirstRoute}
-use Rattle.paths.proofs.Weights.{weights-lawful, ⊕-cancel-eq-right, unbeaten-below, beats-then-⊑, beats-sum-right}
+use Rattle.paths.proofs.Weights.{weights-lawful, ⊕-cancel-eq-right, unbeaten-below, beats-then-⊑}
+use Rattle.paths.proofs.Walks.{rest-unbeaten}
 use Rattle.paths.proofs.Route.{notAfter-rest, notAfter-begins}
 
 module _ {𝓛 : Figures} (𝓝 : Network 𝓛) (Wanted : weights 𝓛 .Figure → Type 0) where
@@ -183,8 +184,4 @@ module _ {𝓛 : Figures} (lawful : Lawful 𝓛) where
       pub rest-skyline : Skyline 𝓝 v t (weight k)
       unfolding weight
       rest-skyline =
-          record {
-            walk = k;
-            weighs = refl;
-            unbeaten = λ other b. line .unbeaten (go a other) (beats-then-⊑ lawful (beats-sum-right lawful w b) covers);
-          }
+          rest-unbeaten lawful w k (λ j. record { walk = go a j; weighs = refl }) (λ other b. line .unbeaten other (beats-then-⊑ lawful b covers))

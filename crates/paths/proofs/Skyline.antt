@@ -1,15 +1,14 @@
 -- From any list of weights to its unbeaten members, each once, in rising order; from any two lists to their join.
 -- In this order: lists of all that has a property; all sums; sorting; the skyline of a list; joins.
 use mathlib.Core.Path.{_≡_, refl, sym, _∙_}
-use mathlib.Core.Logic.{_⊎_, inl, inr, ⊎-elim}
+use mathlib.Core.Logic.{_⊎_, inl, inr, ⊎-elim, Dec·and, Dec·not}
 use mathlib.Core.List.{List, [], _∷_, _++_, List·Memᴰ, List·Memᴰ·head, List·Memᴰ·tail, List·Memᴰ·cases-cons, List·Memᴰ·not-nil, List·Memᴰ·eq-of-singleton, List·Memᴰ·append-cases, Memᴰ·append-left, Memᴰ·append-right, Memᴰ·cast}
-use Prim.Native.Nat.{ℕ, zero, suc, _<_}
-use native.Mathlib.Omega.{arith}
 use Rattle.paths.specs.Figures.{Figures, Lawful}
 use Rattle.paths.specs.Weights.{Found, Covered, weights, Beats, Rising, none, one, more}
 use Rattle.paths.specs.TradeOff.{IsSum, IsJoin}
-use Rattle.paths.proofs.Weights.{weights-lawful, same?, unbeaten-below}
-use Rattle.paths.proofs.Covering.{found?, covered-more}
+use Rattle.paths.proofs.Decisions.{map?}
+use Rattle.paths.proofs.Weights.{weights-lawful, same?}
+use Rattle.paths.proofs.Covering.{found?, covered-stands, all-covered}
 use Rattle.paths.proofs.Rising.{rising-tail, rising-cons, rising-head}
 
 -- ---- Lists of all that has a property
@@ -22,18 +21,18 @@ module _ {A : Type 0} (P : A → Type 0) where
     pub all : {a : A} → P a → List·Memᴰ a list
 
 module _ {A : Type 0} where
-  pub listing-one : (x : A) → Listing (λ a. a ≡ x)
+  unfoldable pub listing-one : (x : A) → Listing (λ a. a ≡ x)
   listing-one x = record { list = x ∷ []; only = λ m. List·Memᴰ·eq-of-singleton m; all = λ e. List·Memᴰ·head e }
 
 -- One thing, listed where a decided condition holds
 module _ {A C : Type 0} where
-  pub listing-if : Dec C → (x : A) → Listing (λ a. C × (a ≡ x))
+  unfoldable pub listing-if : Dec C → (x : A) → Listing (λ a. C × (a ≡ x))
   listing-if (yes c) x = record { list = x ∷ []; only = λ m. (c, List·Memᴰ·eq-of-singleton m); all = λ h. List·Memᴰ·head (h .1) }
   listing-if (no n) x = record { list = []; only = λ m. absurd (List·Memᴰ·not-nil m); all = λ h. absurd (n (h .0)) }
 
 -- All that some member of a list is related to, where each thing alone has a list of what it is related to
 module _ {A B : Type 0} (R : A → B → Type 0) where
-  pub listing-gather : ((a : A) → Listing (R a)) → (l : List A) → Listing (λ b. Found (λ a. R a b) l)
+  unfoldable pub listing-gather : ((a : A) → Listing (R a)) → (l : List A) → Listing (λ b. Found (λ a. R a b) l)
   listing-gather each [] =
       record { list = []; only = λ m. absurd (List·Memᴰ·not-nil m); all = λ f. absurd (List·Memᴰ·not-nil (f .member)) }
   listing-gather each (x ∷ l) = append (each x) (listing-gather each l)
@@ -62,7 +61,8 @@ module _ {A : Type 0} (P : A → Type 0) where
     pub member : List·Memᴰ a l
     pub has : P a
 
-  pub listing-chosen : ((a : A) → Dec (P a)) → (l : List A) → Listing (Chosen l)
+  unfoldable pub listing-chosen : ((a : A) → Dec (P a)) → (l : List A) → Listing (Chosen l)
+  unfolding listing-gather listing-if
   listing-chosen decide l =
       let g = listing-gather (λ a b. P a × (b ≡ a)) (λ a. listing-if (decide a) a) l in
       record {
@@ -78,7 +78,8 @@ module _ (𝓛 : Figures) where
 
   infixl 60 _⊕_
   -- All sums of an entry of k and an entry of l
-  pub listing-sums : (k l : List Weight) → Listing (IsSum 𝓛 k l)
+  unfoldable pub listing-sums : (k l : List Weight) → Listing (IsSum 𝓛 k l)
+  unfolding listing-gather listing-one
   listing-sums k l =
       record {
         list = sums .list;
@@ -129,7 +130,8 @@ module _ {𝓛 : Figures} (lawful : Lawful 𝓛) where
   infix 40 _≺_
   -- ---- Sorting, by putting one entry after another into its place
 
-  insert : (x : Weight) (l : List Weight) → Rising 𝓛 l → Sorted 𝓛 (x ∷ l)
+  unfoldable pub insert : (x : Weight) (l : List Weight) → Rising 𝓛 l → Sorted 𝓛 (x ∷ l)
+  unfolding weights-lawful
   insert x [] r = record { list = x ∷ []; rising = one; only = λ m. m; all = λ m. m }
   insert x (y ∷ l) r = pick (W .≺-compare x y) (insert x l (rising-tail r))
     where
@@ -160,7 +162,8 @@ module _ {𝓛 : Figures} (lawful : Lawful 𝓛) where
                 (List·Memᴰ·cases-cons m);
           }
 
-  pub sorted : (m : List Weight) → Sorted 𝓛 m
+  unfoldable pub sorted : (m : List Weight) → Sorted 𝓛 m
+  unfolding insert
   sorted [] = record { list = []; rising = none; only = λ k. k; all = λ k. k }
   sorted (x ∷ m) = pick (sorted m)
     where
@@ -177,67 +180,40 @@ module _ {𝓛 : Figures} (lawful : Lawful 𝓛) where
   -- ---- The skyline of a list
 
   -- beating is decided, since ⊑ and equality are
-  pub beats? : (p q : Weight) → Dec (Beats 𝓛 p q)
-  beats? p q = pick (W .⊑-decide p q) (same? W p q)
-    where
-      pick : Dec (p ⊑ q) → Dec (p ≡ q) → Dec (Beats 𝓛 p q)
-      pick (yes h) (yes e) = no (λ b. b .smaller e)
-      pick (yes h) (no n) = yes (record { no-larger = h; smaller = n })
-      pick (no n) e = no (λ b. n (b .no-larger))
+  unfoldable pub beats? : (p q : Weight) → Dec (Beats 𝓛 p q)
+  unfolding map? Dec·and Dec·not same? weights-lawful
+  beats? p q =
+      map? (λ z. record { no-larger = z .0; smaller = z .1 }) (λ b. (b .no-larger, b .smaller))
+      (Dec·and (W .⊑-decide p q) (Dec·not (same? W p q)))
 
   -- the members that no member beats, sorted
-  pub skylineOf : (m : List Weight) → SkylineOf 𝓛 m
+  unfoldable pub skylineOf : (m : List Weight) → SkylineOf 𝓛 m
+  unfolding listing-chosen found? beats? Dec·not sorted
   skylineOf m =
       record {
         list = order .list;
         rising = order .rising;
         from = λ k. unbeaten .only (order .only k) .member;
         unbeaten = λ {p} {q} k j b. unbeaten .only (order .only k) .has (record { entry = q; member = j; has = b });
-        covers = λ {p} k. descend (suc (W .size p)) p k (omega arith);
+        covers = all-covered lawful (λ p. List·Memᴰ p m) (order .list) holds;
       }
     where
       Beaten : Weight → Type 0
       Beaten p = Found (λ q. Beats 𝓛 q p) m
 
-      beaten? : (p : Weight) → Dec (Beaten p)
-      beaten? p = found? (λ q. Beats 𝓛 q p) (λ q. beats? q p) m
-
-      not-beaten? : (p : Weight) → Dec (Beaten p → ⊥)
-      not-beaten? p = flip (beaten? p)
-        where
-          flip : Dec (Beaten p) → Dec (Beaten p → ⊥)
-          flip (yes f) = no (λ n. n f)
-          flip (no n) = yes n
-
       unbeaten : Listing (Chosen (λ p. Beaten p → ⊥) m)
-      unbeaten = listing-chosen (λ p. Beaten p → ⊥) not-beaten? m
+      unbeaten = listing-chosen (λ p. Beaten p → ⊥) (λ p. Dec·not (found? (λ q. Beats 𝓛 q p) (λ q. beats? q p) m)) m
 
       order : Sorted 𝓛 (unbeaten .list)
       order = sorted (unbeaten .list)
 
-      -- from a beaten member down to a smaller one, until none is smaller
-      descend : (n : ℕ) (p : Weight) → List·Memᴰ p m → W .size p < n → Covered 𝓛 (order .list) p
-      descend zero p k h = absurd (omega arith)
-      descend (suc n) p k h = pick (λ q j smaller. descend n q j smaller) (beaten? p)
-        where
-          pick : ((q : Weight) → List·Memᴰ q m → W .size q < n → Covered 𝓛 (order .list) q) → Dec (Beaten p) → Covered 𝓛 (order .list) p
-          pick below (yes f) =
-              covered-more lawful
-              (below (f .entry) (f .member) (omega (arith, W .size-falls (f .has .no-larger) (f .has .smaller))))
-              (f .has .no-larger)
-          pick below (no n) = record { entry = p; member = order .all (unbeaten .all (record { member = k; has = n })); has = W .⊑-refl p }
-
-  -- what a list covers and no member of it beats stands in its skyline
-  pub skylineOf-holds :
-      {m : List Weight} {p : Weight} (z : SkylineOf 𝓛 m) → Covered 𝓛 m p → ((q : Weight) → List·Memᴰ q m → Beats 𝓛 q p → ⊥) →
-      List·Memᴰ p (z .list)
-  skylineOf-holds z f unbeaten =
-      let g = z .covers (f .member) in
-      Memᴰ·cast (sym (unbeaten-below lawful (W .⊑-trans (g .has) (f .has)) (unbeaten (g .entry) (z .from (g .member))))) (g .member)
+      holds : (p : Weight) → List·Memᴰ p m → ((q : Weight) → List·Memᴰ q m → Beats 𝓛 q p → ⊥) → List·Memᴰ p (order .list)
+      holds p k free = order .all (unbeaten .all (record { member = k; has = λ f. free (f .entry) (f .member) (f .has) }))
 
   -- ---- Joins: the skyline of all sums
 
-  pub join-exists : (k l : List Weight) → Joins 𝓛 k l
+  unfoldable pub join-exists : (k l : List Weight) → Joins 𝓛 k l
+  unfolding listing-sums skylineOf
   join-exists k l =
       let sums = listing-sums 𝓛 k l in
       let z = skylineOf (sums .list) in
@@ -247,10 +223,6 @@ module _ {𝓛 : Figures} (lawful : Lawful 𝓛) where
             record {
               rising = z .rising;
               real = λ m. record { sum = sums .only (z .from m); unbeaten = λ q s b. z .unbeaten m (sums .all s) b };
-              complete =
-                  λ {p} u.
-                  skylineOf-holds z
-                  (record { entry = p; member = sums .all (u .sum); has = W .⊑-refl p })
-                  (λ q m b. u .unbeaten q (sums .only m) b);
+              complete = λ u. covered-stands lawful (z .covers (sums .all (u .sum))) (λ q m b. u .unbeaten q (sums .only (z .from m)) b);
             };
       }

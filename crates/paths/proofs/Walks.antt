@@ -1,15 +1,15 @@
 -- Laws of walks: joined end to end, taken apart at a junction met, taken apart at either end.
 -- In this order: joining; splitting at a junction; the last arc; a part of an unbeaten walk is unbeaten.
-use mathlib.Core.Path.{_≡_, refl, sym, ap, ap₂, _∙_}
-use mathlib.Core.Logic.{_⊎_, inl, inr, ⊎-elim}
-use mathlib.Core.List.{List, [], _∷_, _++_, List·Memᴰ, List·Memᴰ·head, List·Memᴰ·tail, List·Memᴰ·cases-cons, List·Memᴰ·eq-of-singleton}
-use Prim.Native.Nat.{ℕ, zero, suc, _+_, _≤_, _<_}
+use mathlib.Core.Path.{_≡_, refl, sym, ap, _∙_}
+use mathlib.Core.Logic.{_⊎_, inl, inr}
+use mathlib.Core.List.{_∷_, List·Memᴰ, List·Memᴰ·head, List·Memᴰ·tail, List·Memᴰ·cases-cons, List·Memᴰ·eq-of-singleton}
+use Prim.Native.Nat.{ℕ, zero, suc, _<_}
 use native.Mathlib.Omega.{arith}
 use Rattle.paths.specs.Figures.{Figures, Lawful}
-use Rattle.paths.specs.Weights.{weights, time, spent, Beats}
-use Rattle.paths.specs.Network.{Network, Walk, stay, go, weight, junctions, records}
+use Rattle.paths.specs.Weights.{weights, Beats}
+use Rattle.paths.specs.Network.{Network, Walk, stay, go, weight, junctions}
 use Rattle.paths.specs.TradeOff.{Skyline}
-use Rattle.paths.proofs.Weights.{weights-lawful, unit-⊕, part-⊑-left, part-⊑-right, ⊑-of-eq, beats-sum-left, beats-sum-right}
+use Rattle.paths.proofs.Weights.{weights-lawful, unit-⊕, beats-sum-right}
 
 module _ {𝓛 : Figures} (𝓝 : Network 𝓛) where
   -- p is the weight of a walk from s to t
@@ -123,20 +123,29 @@ module _ {𝓛 : Figures} (lawful : Lawful 𝓛) where
         ∙ sym (weight-then (z .front) (single 𝓝 (z .arc)))
         ∙ ap weight (z .whole)
 
-    -- parts of an unbeaten walk are unbeaten
+    -- what is left of an unbeaten walk is unbeaten, if all that might be left makes a whole walk
+    pub rest-unbeaten :
+        {s t x y : ℕ} (c : weights 𝓛 .Figure) (k : Walk 𝓝 x y) →
+        ((j : Walk 𝓝 x y) → WalkOf 𝓝 s t (weights 𝓛 ._⊕_ c (weight j))) →
+        ((other : Walk 𝓝 s t) → Beats 𝓛 (weight other) (weights 𝓛 ._⊕_ c (weight k)) → ⊥) →
+        Skyline 𝓝 x y (weight k)
+    rest-unbeaten c k whole unbeaten =
+        record {
+          walk = k;
+          weighs = refl;
+          unbeaten = λ other b. let z = whole other in unbeaten (z .walk) (rw (z .weighs) (beats-sum-right lawful c b));
+        }
+
+    -- so are both parts of an unbeaten walk
     module _ {s v t : ℕ} (w : Walk 𝓝 s v) (k : Walk 𝓝 v t) (unbeaten : (other : Walk 𝓝 s t) → Beats 𝓛 (weight other) (weight (w then k)) → ⊥) where
       pub before-unbeaten : Skyline 𝓝 s v (weight w)
       before-unbeaten =
-          record {
-            walk = w;
-            weighs = refl;
-            unbeaten = λ other b. unbeaten (other then k) (rw (weight-then other k) (rw (weight-then w k) (beats-sum-left lawful (weight k) b)));
-          }
+          rest-unbeaten (weight k) w
+          (λ j. record { walk = j then k; weighs = weight-then j k ∙ W .⊕-comm (weight j) (weight k) })
+          (λ other b. unbeaten other (rw (weight-then w k, W .⊕-comm (weight w) (weight k)) b))
 
       pub after-unbeaten : Skyline 𝓝 v t (weight k)
       after-unbeaten =
-          record {
-            walk = k;
-            weighs = refl;
-            unbeaten = λ other b. unbeaten (w then other) (rw (weight-then w other) (rw (weight-then w k) (beats-sum-right lawful (weight w) b)));
-          }
+          rest-unbeaten (weight w) k
+          (λ j. record { walk = w then j; weighs = weight-then w j })
+          (λ other b. unbeaten other (rw (weight-then w k) b))

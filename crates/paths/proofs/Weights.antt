@@ -1,28 +1,27 @@
 -- Laws of weights: of sums and orders, of beating, of the order of answers.
 -- In this order: weights are lawful; equality is decided; sums; beating; answers.
 use mathlib.Core.Path.{_≡_, refl, sym, ap, _∙_, subst}
-use mathlib.Core.Logic.{_⊎_, inl, inr, ⊎-elim}
-use Prim.Native.Nat.{ℕ, _+_, _≤_, _<_}
+use mathlib.Core.Logic.{_⊎_, inl, inr, ⊎-elim, by-cases, Dec·and}
+use Prim.Native.Nat.{_<_}
 use native.Mathlib.Omega.{arith}
-use Rattle.paths.specs.Figures.{Figures, number, FirstThenSecond, by-first, by-second, _and_, Lawful}
-use Rattle.paths.specs.Weights.{weights, time, spent, Beats, Within, Sooner, by-time, by-figures, NotLater, sooner, same}
+use Rattle.paths.specs.Figures.{Figures, Lawful}
+use Rattle.paths.specs.Weights.{weights, time, spent, Beats, Sooner, by-time, by-figures, NotLater, sooner, same}
+use Rattle.paths.proofs.Decisions.{map?}
 use Rattle.paths.proofs.Figures.{number-lawful, and-lawful}
 
-pub weights-lawful : {𝓛 : Figures} → Lawful 𝓛 → Lawful (weights 𝓛)
+unfoldable pub weights-lawful : {𝓛 : Figures} → Lawful 𝓛 → Lawful (weights 𝓛)
+unfolding and-lawful number-lawful
 weights-lawful lawful = and-lawful lawful number-lawful
 
 -- Equality of lawful figures is decided, since it is ⊑ both ways
 module _ {𝓕 : Figures} (K : Lawful 𝓕) where
-  pub same? : (a b : 𝓕 .Figure) → Dec (a ≡ b)
-  same? a b = pick (K .⊑-decide a b) (K .⊑-decide b a)
-    where
-      pick : Dec (𝓕 ._⊑_ a b) → Dec (𝓕 ._⊑_ b a) → Dec (a ≡ b)
-      pick (yes h) (yes k) = yes (K .⊑-antisym h k)
-      pick (yes h) (no k) = no (λ e. k (rw e (K .⊑-refl b)))
-      pick (no h) k = no (λ e. h (rw e (K .⊑-refl b)))
-
   pub ⊑-of-eq : {a b : 𝓕 .Figure} → a ≡ b → 𝓕 ._⊑_ a b
   ⊑-of-eq {a} {b} e = rw e (K .⊑-refl b)
+
+  unfoldable pub same? : (a b : 𝓕 .Figure) → Dec (a ≡ b)
+  unfolding map? Dec·and
+  same? a b =
+      map? (λ z. K .⊑-antisym (z .0) (z .1)) (λ e. (⊑-of-eq e, ⊑-of-eq (sym e))) (Dec·and (K .⊑-decide a b) (K .⊑-decide b a))
 
   pub unit-⊕ : (a : 𝓕 .Figure) → 𝓕 ._⊕_ (𝓕 .𝟘) a ≡ a
   unit-⊕ a = K .⊕-comm _ _ ∙ K .⊕-unit a
@@ -64,11 +63,7 @@ module _ {𝓛 : Figures} (lawful : Lawful 𝓛) where
 
   -- what is no larger is equal or beats
   pub ⊑-cases : {p q : Weight} → p ⊑ q → (p ≡ q) ⊎ Beats 𝓛 p q
-  ⊑-cases {p} {q} h = pick (same? W p q)
-    where
-      pick : Dec (p ≡ q) → (p ≡ q) ⊎ Beats 𝓛 p q
-      pick (yes e) = inl e
-      pick (no n) = inr (record { no-larger = h; smaller = n })
+  ⊑-cases {p} {q} h = by-cases (same? W p q) inl (λ n. inr (record { no-larger = h; smaller = n }))
 
   pub unbeaten-below : {p q : Weight} → p ⊑ q → (Beats 𝓛 p q → ⊥) → p ≡ q
   unbeaten-below h n = ⊎-elim (λ e. e) (λ b. absurd (n b)) (⊑-cases h)
@@ -133,7 +128,8 @@ module _ {𝓛 : Figures} (lawful : Lawful 𝓛) where
   notLater-of-eq e = same e
 
   -- one of two answers is not later than the other
-  pub compare-answers : (p q : Weight) → NotLater 𝓛 p q ⊎ Sooner 𝓛 q p
+  unfoldable pub compare-answers : (p q : Weight) → NotLater 𝓛 p q ⊎ Sooner 𝓛 q p
+  unfolding number-lawful
   compare-answers p q = pick (number-lawful .≺-compare (time 𝓛 p) (time 𝓛 q)) (lawful .≺-compare (spent 𝓛 p) (spent 𝓛 q))
     where
       pick :
@@ -159,11 +155,10 @@ module _ {𝓛 : Figures} (lawful : Lawful 𝓛) where
     where
       late : Sooner 𝓛 q p → ⊥
       late (by-time k) = let z = h .1 in omega arith
-      late (by-figures e k) = pick (same? lawful (spent 𝓛 p) (spent 𝓛 q))
-        where
-          pick : Dec (spent 𝓛 p ≡ spent 𝓛 q) → ⊥
-          pick (yes f) = lawful .≺-irrefl k (sym f)
-          pick (no n) = lawful .≺-irrefl (lawful .≺-trans k (lawful .⊑-earlier (h .0) n)) refl
+      late (by-figures e k) =
+          by-cases (same? lawful (spent 𝓛 p) (spent 𝓛 q))
+          (λ f. lawful .≺-irrefl k (sym f))
+          (λ n. lawful .≺-irrefl (lawful .≺-trans k (lawful .⊑-earlier (h .0) n)) refl)
 
   -- of two sums the one of earlier parts is not later
   pub notLater-sum : {p q r s : Weight} → NotLater 𝓛 p q → NotLater 𝓛 r s → NotLater 𝓛 (p ⊕ r) (q ⊕ s)
