@@ -5,7 +5,7 @@ use mathlib.Core.List.{List}
 use Prim.Native.Nat.{ℕ}
 use Rattle.paths.specs.TradeOff.{IsTradeOff}
 use Rattle.paths.specs.Forest.{Above}
-use Rattle.files.specs.NetworkFile.{networkOf, netNumber}
+use Rattle.network.specs.NetworkFile.{networkOf, netNumber}
 use Rattle.files.specs.LabelFile.{parentsOf}
 use Rattle.files.specs.Stored.{stored}
 use Rattle.files.specs.LabelForm.{formBeside}

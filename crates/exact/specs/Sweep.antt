@@ -4,7 +4,7 @@ use mathlib.Core.Path.{_≡_}
 use mathlib.Core.List.{List}
 use Prim.Native.Nat.{ℕ, _-_, _≤_, _<_}
 use lib.ListN.{length, getD}
-use Rattle.files.specs.NetworkFile.{junctionsOf}
+use Rattle.network.specs.NetworkFile.{junctionsOf}
 use Rattle.files.specs.LabelFile.{parentAt}
 use Rattle.files.specs.Forest.{depthOf, ancestorOf}
 use Rattle.files.specs.Stored.{listPlace, startOf}

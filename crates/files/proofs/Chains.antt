@@ -12,7 +12,7 @@ use lib.Dec.{ltb, eqb}
 use borrow.Author.Tests.{ltb-true, eqb-true, eq-eqb, ne-eqb}
 use Rattle.refusals.specs.Order.{every}
 use Rattle.refusals.proofs.Order.{and-both, every-holds}
-use Rattle.files.specs.NetworkFile.{junctionsOf}
+use Rattle.network.specs.NetworkFile.{junctionsOf}
 use Rattle.files.specs.LabelFile.{parentAt, noParent}
 use Rattle.files.specs.Forest.{stepsUp, depthOf, ancestorOf, parentFits, chainEnds}
 use Rattle.files.specs.Formed.{ParentsFit}

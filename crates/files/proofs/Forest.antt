@@ -15,10 +15,11 @@ use Rattle.paths.specs.Forest.{Above, parent-is, parent-has, Ancestor, Depth, r
 use Rattle.paths.proofs.Forest.{above-child}
 use Rattle.refusals.specs.Order.{every}
 use Rattle.refusals.proofs.Order.{and-both, and-true, every-holds, every-all}
-use Rattle.files.specs.NetworkFile.{junctionsOf, roadsOf, roadLow, roadHigh, roadTime, roadEnergy, RoadArc, networkOf}
+use Rattle.network.specs.NetworkFile.{junctionsOf, roadsOf, roadLow, roadHigh, roadTime, roadEnergy, RoadArc, networkOf}
 use Rattle.files.specs.LabelFile.{parentAt, noParent, parentsOf}
 use Rattle.files.specs.Forest.{depthOf, ancestorOf, isAncestor, roadJoins}
-use Rattle.files.specs.Formed.{NetworkFits, ParentsFit}
+use Rattle.files.specs.Formed.{ParentsFit}
+use Rattle.network.specs.Fits.{NetworkFits}
 use Rattle.files.proofs.Chains.{or-either, IsRoot, AllEnd, root?, depth-parent, depth-none, depth-some}
 use Rattle.files.proofs.Chains.{ancestor-none, ancestor-below, one-up, climbed}
 

@@ -1,10 +1,11 @@
--- Laws of the two files, for those who read them further.
-pub mod Numbers
-pub mod FaultLoop
-pub mod NetworkTests
-pub mod Accepted
-pub mod Arcs
+-- Laws of the label file, for those who read it further.
 pub mod Chains
 pub mod Forest
 pub mod Pigeonhole
 pub mod ParentLoops
+pub mod Tabulate
+pub mod Places
+pub mod Lists
+pub mod Faults
+pub mod Entries
+pub mod Scan

@@ -14,7 +14,7 @@ use borrow.Author.Count.{below-none, below-more}
 use borrow.Author.Tests.{lt-ltb, le-ltb, le-leb, lt-leb, not-true, not-false}
 use Rattle.refusals.specs.Order.{every}
 use Rattle.refusals.proofs.Order.{and-true, and-false-left, and-false-right, every-none, every-more, every-holds, every-fails}
-use Rattle.files.specs.NetworkFile.{junctionsOf, roadLow, roadHigh}
+use Rattle.network.specs.NetworkFile.{junctionsOf, roadLow, roadHigh}
 use Rattle.files.specs.LabelFile.{parentAt, noParent}
 use Rattle.files.specs.Forest.{stepsUp, depthOf, ancestorOf, parentFits, chainEnds, isAncestor, roadJoins}
 use Rattle.files.specs.Formed.{ParentsFit, DepthsFilled}

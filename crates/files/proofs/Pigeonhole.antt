@@ -15,7 +15,7 @@ use Rattle.paths.proofs.Route.{visits-once-short}
 use Rattle.paths.proofs.Forest.{above-child}
 use Rattle.refusals.specs.Order.{every}
 use Rattle.refusals.proofs.Order.{and-true, every-all}
-use Rattle.files.specs.NetworkFile.{junctionsOf}
+use Rattle.network.specs.NetworkFile.{junctionsOf}
 use Rattle.files.specs.LabelFile.{parentAt, parentsOf}
 use Rattle.files.specs.Forest.{stepsUp, depthOf, parentFits, chainEnds}
 use Rattle.files.specs.ParentsRead.{parentsPass}

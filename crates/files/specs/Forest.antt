@@ -4,7 +4,7 @@ use mathlib.Core.Bool.{Bool, cond, _&&_, _||_}
 use mathlib.Core.List.{List}
 use Prim.Native.Nat.{ℕ, zero, suc, _+_, _-_}
 use lib.Dec.{leb, ltb, eqb}
-use Rattle.files.specs.NetworkFile.{junctionsOf, roadLow, roadHigh}
+use Rattle.network.specs.NetworkFile.{junctionsOf, roadLow, roadHigh}
 use Rattle.files.specs.LabelFile.{parentAt, noParent}
 
 -- How many steps lead from v to a root, counted up to `most`

@@ -4,26 +4,15 @@ use mathlib.Core.Bool.{true}
 use mathlib.Core.List.{List}
 use Prim.Native.Nat.{ℕ, suc, _+_, _*_, _≤_, _<_}
 use lib.ListN.{length, getD}
-use Rattle.files.specs.Versions.{leastEnergy}
-use Rattle.files.specs.NetworkFile.{versionOf, junctionsOf, roadsOf, roadLow, roadHigh, roadTime, roadEnergy, recordRises}
+use Rattle.network.specs.Versions.{leastEnergy}
+use Rattle.network.specs.NetworkFile.{versionOf, junctionsOf, roadsOf}
+use Rattle.network.specs.Fits.{NetworkFits}
 use Rattle.files.specs.LabelFile.{entriesOf, countAt, timeAt, energyAt, listEnd}
 use Rattle.refusals.specs.Order.{every}
 use Rattle.files.specs.Forest.{depthOf, parentFits, roadJoins}
-use Rattle.files.specs.Roads.{Grouped}
+use Rattle.network.specs.Roads.{Grouped}
 use Rattle.files.specs.Stored.{listsOf, placeOf, startOf, entriesBefore}
 use Rattle.files.specs.LabelForm.{mostBytes, mostCount, mostFigure}
-
--- A network that passed
-pub record NetworkFits (s : List ℕ) : Type 0 where
-  pub some-junction : 1 ≤ junctionsOf s
-  pub few-junctions : junctionsOf s ≤ 1024
-  pub few-roads : roadsOf s ≤ 4096
-  pub whole : length s ≡ 16 + 8 * roadsOf s
-  pub low-below-high : (k : ℕ) → k < roadsOf s → roadLow s k < roadHigh s k
-  pub high-on-map : (k : ℕ) → k < roadsOf s → roadHigh s k < junctionsOf s
-  pub rises : (k : ℕ) → k < roadsOf s → recordRises s k ≡ true
-  pub takes-time : (k : ℕ) → k < roadsOf s → 1 ≤ roadTime s k
-  pub takes-energy : (k : ℕ) → k < roadsOf s → leastEnergy (versionOf s) ≤ roadEnergy s k
 
 -- Parents that passed 15
 pub record ParentsFit (s : List ℕ) : Type 0 where

@@ -5,9 +5,9 @@ use Prim.Native.Nat.{ℕ, zero, suc, _+_, _*_}
 use lib.Dec.{leb, ltb, eqb}
 use lib.ListN.{length}
 use Rattle.refusals.specs.Order.{unless, decided, every, firstFault}
-use Rattle.files.specs.Bytes.{marked}
-use Rattle.files.specs.Versions.{labelsServed, leastEnergy}
-use Rattle.files.specs.NetworkFile.{versionOf, junctionsOf, roadsOf, identityOf}
+use Rattle.network.specs.Bytes.{marked}
+use Rattle.network.specs.Versions.{labelsServed, leastEnergy}
+use Rattle.network.specs.NetworkFile.{versionOf, junctionsOf, roadsOf, identityOf}
 use Rattle.files.specs.LabelFile.{entriesOf, countAt, timeAt, energyAt}
 use Rattle.files.specs.Forest.{parentFits, chainEnds, roadJoins}
 use Rattle.files.specs.Stored.{listsOf, placeOf, entriesBefore}

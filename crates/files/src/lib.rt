@@ -1,5 +1,4 @@
-// The network file and the label file: every byte has one reading.
-pub mod bytes;
-pub mod network;
+// The label file: every byte has one reading.
 pub mod parents;
-pub mod versions;
+pub mod place;
+pub mod stored;

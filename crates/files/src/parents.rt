@@ -1,15 +1,16 @@
 // The parents of the label file: depths, ancestors, and what 15 and 16 ask of them.
-use super::bytes::u16_at;
-use super::bytes::u32_at;
+use network::bytes::u16_at;
+use network::bytes::u32_at;
 ghost use mathlib.Core.Path.{_≡_};
 ghost use mathlib.Core.Bool.{true, _&&_};
 ghost use Prim.Native.Nat.{_+_, _*_, _≤_, _<_};
 ghost use lib.ListN.{length};
 ghost use Rattle.refusals.specs.Order.{every};
-ghost use Rattle.files.specs.Reads.{ReadU16};
-ghost use Rattle.files.specs.NetworkFile.{junctionsOf, roadsOf};
+ghost use Rattle.network.specs.Reads.{ReadU16};
+ghost use Rattle.network.specs.NetworkFile.{junctionsOf, roadsOf};
 ghost use Rattle.files.specs.Forest.{depthOf, parentFits, isAncestor, roadJoins};
-ghost use Rattle.files.specs.Formed.{NetworkFits, ParentsFit, DepthsFilled};
+ghost use Rattle.files.specs.Formed.{ParentsFit, DepthsFilled};
+ghost use Rattle.network.specs.Fits.{NetworkFits};
 ghost use Rattle.files.specs.ParentsRead.{ParentsStand, Climbable, ParentsTested, AncestorRead};
 
 const NO_PARENT: u32 = 65535;

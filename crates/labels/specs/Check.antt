@@ -2,7 +2,7 @@
 use mathlib.Core.Path.{_≡_}
 use mathlib.Core.List.{List}
 use Prim.Native.Nat.{ℕ}
-use Rattle.files.specs.NetworkFile.{netNumber}
+use Rattle.network.specs.NetworkFile.{netNumber}
 use Rattle.files.specs.LabelForm.{formBeside}
 use Rattle.exact.specs.Right.{EveryListRight}
 

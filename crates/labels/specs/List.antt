@@ -9,7 +9,7 @@ use Rattle.paths.specs.Weights.{weights, energy}
 use Rattle.paths.specs.TradeOff.{IsTradeOff}
 use Rattle.paths.specs.Answer.{Apart}
 use Rattle.refusals.specs.Lent.{filled}
-use Rattle.files.specs.NetworkFile.{networkOf, junctionsOf}
+use Rattle.network.specs.NetworkFile.{networkOf, junctionsOf}
 use Rattle.lists.specs.Entries.{times, energies}
 use Rattle.labels.specs.Check.{Checked}
 

@@ -8,7 +8,7 @@ use Rattle.paths.specs.Weights.{pair}
 use Rattle.paths.specs.Answer.{Best}
 use Rattle.paths.specs.Route.{FirstRoute}
 use Rattle.refusals.specs.Lent.{filled}
-use Rattle.files.specs.NetworkFile.{networkOf, junctionsOf}
+use Rattle.network.specs.NetworkFile.{networkOf, junctionsOf}
 use Rattle.query.specs.Answers.{Answers}
 use Rattle.labels.specs.Check.{Checked}
 

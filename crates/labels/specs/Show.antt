@@ -5,7 +5,7 @@ use mathlib.Core.List.{List, []}
 use Prim.Native.Nat.{ℕ, _-_, _<_}
 use lib.ListN.{take, drop}
 use Rattle.paths.specs.Forest.{Above}
-use Rattle.files.specs.NetworkFile.{junctionsOf}
+use Rattle.network.specs.NetworkFile.{junctionsOf}
 use Rattle.files.specs.LabelFile.{parentsOf, listEnd}
 use Rattle.files.specs.Stored.{listPlace}
 use Rattle.files.specs.LabelForm.{formAlone}

@@ -4,7 +4,7 @@ use mathlib.Core.List.{List}
 use Prim.Native.Nat.{ℕ, _-_, _≤_, _<_}
 use lib.ListN.{length, getD}
 use Rattle.paths.specs.Forest.{Common, Deepest, WorkingSet}
-use Rattle.files.specs.NetworkFile.{networkOf, junctionsOf}
+use Rattle.network.specs.NetworkFile.{networkOf, junctionsOf}
 use Rattle.files.specs.LabelFile.{parentsOf}
 use Rattle.files.specs.Forest.{depthOf, ancestorOf}
 use Rattle.query.specs.declared.Meeting.{Meeting}

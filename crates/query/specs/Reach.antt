@@ -3,7 +3,7 @@ use mathlib.Core.List.{List}
 use Prim.Native.Nat.{ℕ}
 use Rattle.paths.specs.Weights.{weights, energy}
 use Rattle.paths.specs.Network.{Walk, weight}
-use Rattle.files.specs.NetworkFile.{networkOf}
+use Rattle.network.specs.NetworkFile.{networkOf}
 
 -- A path from x to t that takes no more than p in either figure
 pub record PathWithin (net : List ℕ) (x t : ℕ) (p : weights energy .Figure) : Type 0 where

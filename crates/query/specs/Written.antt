@@ -8,7 +8,7 @@ use Rattle.paths.specs.TradeOff.{IsTradeOff}
 use Rattle.paths.specs.Route.{FirstRoute}
 use Rattle.refusals.specs.Lent.{filled}
 use Rattle.lists.specs.Entries.{times, energies}
-use Rattle.files.specs.NetworkFile.{networkOf}
+use Rattle.network.specs.NetworkFile.{networkOf}
 
 -- The whole trade-off list of x and y in the first places, later ones as before
 pub record ListWritten (net : List ℕ) (x y : ℕ) (timesBefore energiesBefore : List ℕ) (count : ℕ) (timesAfter energiesAfter : List ℕ) : Type 0 where

@@ -2,7 +2,7 @@
 use native.Mathlib.Omega.{arith}
 use Rattle.files.proofs.ParentLoops.{Passing, passing-start, passing-more, passing-fails, passing-end}
 use Prim.Native.Nat.{_-_}
-use Rattle.files.specs.NetworkFile.{junctionsOf}
+use Rattle.network.specs.NetworkFile.{junctionsOf}
 use Rattle.files.specs.Forest.{parentFits}
 use borrow.Author.Needs.{needs}
 use Rattle.files.proofs.parents.parents_fit.Statement.{statement}

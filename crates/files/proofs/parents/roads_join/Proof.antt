@@ -1,7 +1,7 @@
 -- The loop has passed every road below k, and one that does not join fails all.
 use Prim.Native.Nat.{_-_}
 use native.Mathlib.Omega.{arith}
-use Rattle.files.specs.NetworkFile.{roadsOf}
+use Rattle.network.specs.NetworkFile.{roadsOf}
 use Rattle.files.specs.Forest.{roadJoins}
 use Rattle.files.proofs.ParentLoops.{Passing, passing-start, passing-more, passing-fails, passing-end}
 use borrow.Author.Needs.{needs}

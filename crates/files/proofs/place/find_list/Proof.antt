@@ -1,0 +1,59 @@
+use native.Mathlib.Omega.{arith}
+use borrow.Author.Needs.{needs}
+use Rattle.files.proofs.Places.{deeper-in-table, way-read, way-inside, way-found}
+use Rattle.files.proofs.place.find_list.Statement.{statement}
+use Rattle.files.proofs.place.find_list.Tie as tie
+use Rattle.files.proofs.place.find_list.Reads as reads
+use Rattle.files.proofs.place.find_list.Lts as lts
+use Rattle.files.proofs.place.number_of.Reads as number-of-reads
+use Rattle.files.proofs.place.skip.Reads as skip-reads
+
+-- src/place.rt:79:19
+number-of-requires : tie.Need-number-of-requires
+number-of-requires c κs = search needs
+
+-- src/place.rt:79:42
+number-of-requires-2 : tie.Need-number-of-requires-2
+number-of-requires-2 c κs = search needs
+
+-- src/place.rt:79:19
+sub-between : tie.Need-sub-between
+sub-between c =
+    let pre = c .before .before .before .pre in
+    omega (arith, deeper-in-table (pre .1 .0) (pre .1 .1 .1 .0 .0) (pre .1 .1 .1 .0 .1) (pre .1 .1 .1 .1))
+
+-- src/place.rt:79:19
+sub-between-2 : tie.Need-sub-between-2
+sub-between-2 c =
+    let pre = c .before .before .before .pre in
+    omega (arith, deeper-in-table (pre .1 .0) (pre .1 .1 .1 .0 .0) (pre .1 .1 .1 .0 .1) (pre .1 .1 .1 .1))
+
+-- src/place.rt:80:9
+number-of-requires-3 : tie.Need-number-of-requires-3
+number-of-requires-3 c κs = search needs
+
+-- src/place.rt:81:5
+skip-requires : tie.Need-skip-requires
+skip-requires c κs =
+    let pre = c .before .before .before .before .pre in (
+      way-inside (pre .0)
+          (way-read (pre .1 .0) (pre .1 .1 .0) (pre .1 .1 .1 .0 .0) (pre .1 .1 .1 .0 .1) (pre .1 .1 .1 .1)
+          (c .before .before .number-of .ensures) (c .before .number-of2 .ensures) (c .number-of3 .ensures)),
+      pre .0 .few-bytes,
+    )
+
+-- src/place.rt:71:1
+returns : tie.Need-returns
+returns c = search (way-found, way-read, needs)
+
+pub find-list-spec : {M : Type 1} → statement M
+find-list-spec =
+    tie.close
+    (tie.spec
+    number-of-requires
+    number-of-requires-2
+    sub-between
+    sub-between-2
+    number-of-requires-3
+    skip-requires
+    returns)

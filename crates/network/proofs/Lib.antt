@@ -1,0 +1,6 @@
+-- Laws of the network file, for those who read it further.
+pub mod Numbers
+pub mod FaultLoop
+pub mod NetworkTests
+pub mod Accepted
+pub mod Arcs

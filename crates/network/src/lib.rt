@@ -1,0 +1,4 @@
+// The network file: every byte has one reading.
+pub mod bytes;
+pub mod network;
+pub mod versions;
