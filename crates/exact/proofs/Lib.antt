@@ -1,0 +1,2 @@
+-- Why the sweep decides number 18.
+pub mod Exactness
