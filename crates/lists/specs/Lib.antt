@@ -3,4 +3,5 @@ pub mod Entries
 pub mod Form
 pub mod Sums
 pub mod Cover
+pub mod CoverSum
 pub mod Answers

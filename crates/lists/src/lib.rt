@@ -24,3 +24,8 @@ pub enum SumAnswer {
     IllFormed,
     OverLimit,
 }
+
+pub mod cover;
+pub mod form;
+pub mod sums;
+pub mod within;

@@ -1,0 +1,352 @@
+-- One walk up the first list and down the second finds the best sum: one law for each way through it.
+-- In this order: a sum's numbers; two sums compared; the entries that fit beside an energy; the last that fits; the walk.
+use mathlib.Core.Path.{_≡_, refl, sym, ap, _∙_, subst}
+use mathlib.Core.Logic.{_⊎_, inl, inr, ⊎-elim}
+use mathlib.Core.Bool.{Bool, true, false, not}
+use mathlib.Core.List.{List}
+use Prim.Native.Nat.{ℕ, zero, suc, _+_, _-_, _≤_, _<_, _^_}
+use native.Mathlib.Decide.{decLe, ℕ-discrete}
+use native.Mathlib.Omega.{arith}
+use borrow.Author.Count.{below-more}
+use borrow.Author.Tests.{ltb-true, ltb-false}
+use lib.Dec.{ltb}
+use lib.ListN.{length, getD}
+use Rattle.paths.specs.Weights.{weights, energy, pair, Within, Sooner, by-time, by-figures, NotLater, sooner, same}
+use Rattle.paths.proofs.Figures.{number-lawful}
+use Rattle.paths.proofs.Weights.{notLater-trans, sooner-trans, sooner-irrefl}
+use Rattle.lists.specs.Entries.{Weight, entryAt, IsList}
+use Rattle.lists.specs.Sums.{sumAt, BestPlaces}
+use Rattle.lists.specs.declared.sums.Sum.{Sum}
+use Rattle.lists.proofs.Rules.{test-fails, test-holds}
+use Rattle.lists.proofs.Entries.{energy-rises-far, time-falls-far, within-eq, notLater-eq}
+
+-- ---- A sum's numbers
+
+module _ {ts es us fs : List ℕ} (first : IsList 2147483647 ts es) (second : IsList 2147483647 us fs) {i j : ℕ} where
+  -- two numbers of 31 bits have a sum of 32
+  pub time-adds : i < length ts → j < length us → getD ts i 0 + getD us j 0 < 2 ^ 32
+  time-adds h k = omega (arith, first .small-time i h, second .small-time j k)
+
+  pub energy-adds : i < length es → j < length fs → getD es i 0 + getD fs j 0 < 2 ^ 32
+  energy-adds h k = omega (arith, first .small-energy i h, second .small-energy j k)
+
+-- and so with each entry before `from`
+pub energies-add :
+    {ts es us fs : List ℕ} {i from : ℕ} →
+    IsList 2147483647 ts es →
+    IsList 2147483647 us fs →
+    i < length ts →
+    from ≤ length fs →
+    (k : ℕ) →
+    k < from →
+    getD es i 0 + getD fs k 0 < 2 ^ 32
+energies-add first second h l k m = energy-adds first second (omega (arith, first .one-length)) (omega arith)
+
+pub pair-is : {t e t′ e′ : ℕ} → t ≡ t′ → e ≡ e′ → pair t e ≡ pair t′ e′
+pair-is p q = λ i. record { first = q i; second = p i }
+
+-- ---- Two sums compared
+
+abbrev pub weightOf : Sum → Weight
+weightOf s = pair (s .time .0) (s .units .0)
+
+-- The candidate if it comes before the best as an answer, else the best
+abbrev pub Chosen : Sum → Sum → Sum → Type 0
+Chosen best candidate r =
+    (Sooner energy (weightOf candidate) (weightOf best) × (r ≡ candidate)) ⊎
+    (NotLater energy (weightOf best) (weightOf candidate) × (r ≡ best))
+
+module _ (best candidate : Sum) {quicker : Bool} (q : quicker ≡ ltb (candidate .time .0) (best .time .0)) where
+  pub chosen-quicker : quicker ≡ true → Chosen best candidate candidate
+  chosen-quicker t = inl (by-time (ltb-true _ _ (sym q ∙ t)), refl)
+
+  module _ {slower : Bool} (s : slower ≡ ltb (best .time .0) (candidate .time .0)) where
+    pub chosen-slower : slower ≡ true → Chosen best candidate best
+    chosen-slower t = inr (sooner (by-time (ltb-true _ _ (sym s ∙ t))), refl)
+
+    -- equal times are decided by least energy
+    module _ (f : quicker ≡ false) (g : slower ≡ false) {cheaper : Bool} (e : cheaper ≡ ltb (candidate .units .0) (best .units .0)) where
+      one-time : candidate .time .0 ≡ best .time .0
+      one-time =
+          let a : best .time .0 ≤ candidate .time .0 = ltb-false _ _ (sym q ∙ f) in
+          let b : candidate .time .0 ≤ best .time .0 = ltb-false _ _ (sym s ∙ g) in
+          omega arith
+
+      pub chosen-cheaper : cheaper ≡ true → Chosen best candidate candidate
+      chosen-cheaper t = inl (by-figures one-time (ltb-true _ _ (sym e ∙ t)), refl)
+
+      pub chosen-kept : cheaper ≡ false → Chosen best candidate best
+      chosen-kept n = inr (pick (ltb-false _ _ (sym e ∙ n)) (decLe (candidate .units .0) (best .units .0)), refl)
+        where
+          pick : best .units .0 ≤ candidate .units .0 → Dec (candidate .units .0 ≤ best .units .0) → NotLater energy (weightOf best) (weightOf candidate)
+          pick l (yes h) =
+              let z : best .units .0 ≡ candidate .units .0 = omega arith in
+              same (pair-is (sym one-time) z)
+          pick l (no h) = sooner (by-figures (sym one-time) (omega arith))
+
+-- what is sooner is not kept waiting
+not-both : {p q : Weight} → Sooner energy q p → NotLater energy p q → ⊥
+not-both h (sooner k) = sooner-irrefl number-lawful (sooner-trans number-lawful h k) refl
+not-both h (same e) = sooner-irrefl number-lawful h (sym e)
+
+sooner-eq : {p q r s : Weight} → p ≡ r → q ≡ s → Sooner energy p q → Sooner energy r s
+sooner-eq {q = q} {r = r} e f h = subst (λ z. Sooner energy r z) f (subst (λ z. Sooner energy z q) e h)
+
+-- ---- The entries that fit beside an energy
+
+-- No entry from j up to from fits beside units within C
+pub record NoneFrom (fs : List ℕ) (units C from j : ℕ) : Type 0 where
+  pub in-list : j ≤ from
+  pub beyond : (k : ℕ) → j ≤ k → k < from → C < units + getD fs k 0
+
+-- the last entry is over the limit too
+pub noneFrom-more :
+    {fs : List ℕ} {units C from j sum : ℕ} {over : Bool} →
+    NoneFrom fs units C from j →
+    0 < j →
+    sum ≡ units + getD fs (j - 1) 0 →
+    over ≡ ltb C sum →
+    not over ≡ false →
+    NoneFrom fs units C from (j - 1)
+noneFrom-more {fs} {units} {C} {from} {j} {sum} none-fits h s e f = record { in-list = omega (arith, none-fits .in-list); beyond = beyond }
+  where
+    is-over : C < units + getD fs (j - 1) 0
+    is-over = let z : C < sum = ltb-true _ _ (test-holds e f) in omega arith
+
+    beyond : (k : ℕ) → j - 1 ≤ k → k < from → C < units + getD fs k 0
+    beyond k l m = pick (ℕ-discrete k (j - 1))
+      where
+        pick : Dec (k ≡ j - 1) → C < units + getD fs k 0
+        pick (yes d) = rw d is-over
+        pick (no d) = none-fits .beyond k (omega arith) m
+
+-- it is not: it fits
+pub fits-here : (units x : ℕ) {C sum : ℕ} {over : Bool} → sum ≡ units + x → over ≡ ltb C sum → not over ≡ true → units + x ≤ C
+fits-here units x {C} {sum} s e t = let z : sum ≤ C = ltb-false _ _ (test-fails e t) in omega arith
+
+-- The first j entries fit beside units within C, and no other does
+pub record Fit (fs : List ℕ) (units C j : ℕ) : Type 0 where
+  pub in-list : j ≤ length fs
+  pub last : 0 < j → units + getD fs (j - 1) 0 ≤ C
+  pub beyond : (k : ℕ) → j ≤ k → k < length fs → C < units + getD fs k 0
+
+-- what the search down from `from` gives, where no entry from there on fits
+pub fit-from :
+    {fs : List ℕ} {units C from j : ℕ} →
+    from ≤ length fs →
+    ((k : ℕ) → from ≤ k → k < length fs → C < units + getD fs k 0) →
+    j ≤ from →
+    ((k : ℕ) → j ≤ k → k < from → C < units + getD fs k 0) →
+    (0 < j → units + getD fs (j - 1) 0 ≤ C) →
+    Fit fs units C j
+fit-from {fs} {units} {C} {from} {j} h over l between fits = record { in-list = omega arith; last = fits; beyond = beyond }
+  where
+    beyond : (k : ℕ) → j ≤ k → k < length fs → C < units + getD fs k 0
+    beyond k a b = pick (decLe from k)
+      where
+        pick : Dec (from ≤ k) → C < units + getD fs k 0
+        pick (yes d) = over k d b
+        pick (no d) = between k a (omega arith)
+
+-- what the search down from the end gives
+pub fit-whole :
+    {fs : List ℕ} {units C j : ℕ} →
+    j ≤ length fs →
+    ((k : ℕ) → j ≤ k → k < length fs → C < units + getD fs k 0) →
+    (0 < j → units + getD fs (j - 1) 0 ≤ C) →
+    Fit fs units C j
+fit-whole h between fits = record { in-list = h; last = fits; beyond = between }
+
+-- ---- What is known after n entries of the first list
+
+module _ (ts es us fs : List ℕ) where
+  -- The best sum within C of the first n entries, at the lowest place
+  pub record BestBefore (C n i j : ℕ) : Type 0 where
+    pub first-place : i < n
+    pub second-place : j < length us
+    pub within : Within energy C (sumAt ts es us fs i j)
+    pub least :
+        (a : ℕ) → a < n → (b : ℕ) → b < length us → Within energy C (sumAt ts es us fs a b) →
+        NotLater energy (sumAt ts es us fs i j) (sumAt ts es us fs a b)
+    pub lowest : (a : ℕ) → a < n → (b : ℕ) → b < length us → sumAt ts es us fs a b ≡ sumAt ts es us fs i j → i ≤ a
+
+  -- The sum s is that of entry i and entry j
+  pub record Weighed (s : Sum) (i j : ℕ) : Type 0 where
+    pub first-is : s .first ≡ i
+    pub second-is : s .second ≡ j
+    pub weighs : weightOf s ≡ sumAt ts es us fs i j
+
+  -- n entries are done: their best sum is known, and beside a later entry none from j on fits
+  pub record Walked (C n j : ℕ) (best : Sum) : Type 0 where
+    pub in-list : n ≤ length ts
+    pub fits-in-list : j ≤ length fs
+    pub beyond : (a k : ℕ) → n ≤ a → a < length es → j ≤ k → k < length fs → C < getD es a 0 + getD fs k 0
+    pub best-is : BestBefore C n (best .first) (best .second)
+    pub weighs : weightOf best ≡ sumAt ts es us fs (best .first) (best .second)
+
+-- ---- The walk
+
+module _ {most : ℕ} {ts es us fs : List ℕ} (first : IsList most ts es) (second : IsList most us fs) where
+  abbrev sum : ℕ → ℕ → Weight
+  sum = sumAt ts es us fs
+
+  -- of the sums of entry n, that with the last entry that fits is the best
+  last-least :
+      {C j : ℕ} (n : ℕ) → Fit fs (getD es n 0) C j → (b : ℕ) → b < length us → Within energy C (sum n b) → NotLater energy (sum n (j - 1)) (sum n b)
+  last-least {C} {j} n fit b h w = pick (decLe j b) (ℕ-discrete b (j - 1))
+    where
+      pick : Dec (j ≤ b) → Dec (b ≡ j - 1) → NotLater energy (sum n (j - 1)) (sum n b)
+      pick (yes d) e = absurd (omega (arith, fit .beyond b d (omega (arith, second .one-length))))
+      pick (no d) (yes e) = same (ap (sum n) (sym e))
+      pick (no d) (no e) =
+          sooner (by-time (omega (arith, time-falls-far second b (j - 1) (omega arith) (omega (arith, fit .in-list, second .one-length)))))
+
+  -- what does not fit beside entry n does not fit beside a later one, whose energy is larger
+  beyond-next :
+      {C j : ℕ} (n : ℕ) → Fit fs (getD es n 0) C j → (a k : ℕ) → n + 1 ≤ a → a < length es → j ≤ k → k < length fs → C < getD es a 0 + getD fs k 0
+  beyond-next n fit a k h l m o = omega (arith, fit .beyond k m o, energy-rises-far first n a (omega arith) l)
+
+  -- ---- The best of the entries so far
+
+  -- p is the best of the sums of entry a
+  abbrev Least : ℕ → Weight → ℕ → Type 0
+  Least C p a = (b : ℕ) → b < length us → Within energy C (sum a b) → NotLater energy p (sum a b)
+
+  -- the first entry alone
+  best-first : {C j : ℕ} → Fit fs (getD es 0 0) C j → 0 < j → BestBefore ts es us fs C 1 0 (j - 1)
+  best-first {C} {j} fit h =
+      record {
+        first-place = omega arith;
+        second-place = omega (arith, fit .in-list, second .one-length);
+        within = fit .last h;
+        least = below-more (Least C (sum 0 (j - 1))) 0 (λ a l. absurd (omega arith)) (last-least 0 fit);
+        lowest = λ a l b m e. omega arith;
+      }
+
+  module _ {C n i m j : ℕ} (best : BestBefore ts es us fs C n i m) (fit : Fit fs (getD es n 0) C j) (some : 0 < j) where
+    -- entry n has a sooner sum
+    best-taken : Sooner energy (sum n (j - 1)) (sum i m) → BestBefore ts es us fs C (n + 1) n (j - 1)
+    best-taken before =
+        record {
+          first-place = omega arith;
+          second-place = omega (arith, fit .in-list, second .one-length);
+          within = fit .last some;
+          least =
+              below-more (Least C (sum n (j - 1))) n
+              (λ a l b k w. notLater-trans number-lawful (sooner before) (best .least a l b k w))
+              (last-least n fit);
+          lowest = below-more (λ a. (b : ℕ) → b < length us → sum a b ≡ sum n (j - 1) → n ≤ a) n lower (λ b k e. omega arith);
+        }
+      where
+        -- an earlier entry with this sum would have been the best
+        lower : (a : ℕ) → a < n → (b : ℕ) → b < length us → sum a b ≡ sum n (j - 1) → n ≤ a
+        lower a l b k e =
+            absurd (not-both before (notLater-eq e (best .least a l b k (within-eq e (fit .last some)))))
+
+    -- entry n has none
+    best-kept : NotLater energy (sum i m) (sum n (j - 1)) → BestBefore ts es us fs C (n + 1) i m
+    best-kept later =
+        record {
+          first-place = omega (arith, best .first-place);
+          second-place = best .second-place;
+          within = best .within;
+          least = below-more (Least C (sum i m)) n (best .least) (λ b k w. notLater-trans number-lawful later (last-least n fit b k w));
+          lowest = below-more (λ a. (b : ℕ) → b < length us → sum a b ≡ sum i m → i ≤ a) n (best .lowest) (λ b k e. omega (arith, best .first-place));
+        }
+
+  -- no later entry has a sum within the limit
+  best-all :
+      {C n i j : ℕ} → n ≤ length ts → BestBefore ts es us fs C n i j →
+      ((a b : ℕ) → n ≤ a → a < length ts → b < length us → Within energy C (sum a b) → ⊥) → BestPlaces ts es us fs C i j
+  best-all {C} {n} {i} {j} h best later =
+      record {
+        first-place = omega (arith, best .first-place);
+        second-place = best .second-place;
+        within = best .within;
+        least = least;
+        lowest = lowest;
+      }
+    where
+      least : (a b : ℕ) → a < length ts → b < length us → Within energy C (sum a b) → NotLater energy (sum i j) (sum a b)
+      least a b l k w = pick (decLe n a)
+        where
+          pick : Dec (n ≤ a) → NotLater energy (sum i j) (sum a b)
+          pick (yes d) = absurd (later a b d l k w)
+          pick (no d) = best .least a (omega arith) b k w
+
+      lowest : (a b : ℕ) → a < length ts → b < length us → sum a b ≡ sum i j → i ≤ a
+      lowest a b l k e = pick (decLe n a)
+        where
+          pick : Dec (n ≤ a) → i ≤ a
+          pick (yes d) = omega (arith, best .first-place)
+          pick (no d) = best .lowest a (omega arith) b k e
+
+  -- ---- The ways through the loop
+
+  -- no entry at all
+  pub walk-empty :
+      {C : ℕ} → length ts ≡ 0 → (a b : ℕ) → a < length ts → b < length us → Within energy C (sum a b) → ⊥
+  walk-empty h a b l k w = omega arith
+
+  -- nothing fits beside the first entry, so nothing does beside a later one
+  pub walk-nothing :
+      {C j : ℕ} → Fit fs (getD es 0 0) C j → j ≡ 0 → (a b : ℕ) → a < length ts → b < length us → Within energy C (sum a b) → ⊥
+  walk-nothing {C} fit h zero b l k w = omega (arith, fit .beyond b (omega arith) (omega (arith, second .one-length)))
+  walk-nothing {C} fit h (suc a) b l k w =
+      omega
+      (arith, beyond-next 0 fit (suc a) b (omega arith) (omega (arith, first .one-length)) (omega arith) (omega (arith, second .one-length)))
+
+  pub walk-starts :
+      {C j : ℕ} {s : Sum} → 0 < length ts → Fit fs (getD es 0 0) C j → 0 < j → Weighed ts es us fs s 0 (j - 1) → Walked ts es us fs C 1 j s
+  walk-starts {C} {j} {s} h fit some is =
+      record {
+        in-list = omega arith;
+        fits-in-list = fit .in-list;
+        beyond = beyond-next 0 fit;
+        best-is = rw (is .first-is, is .second-is) (best-first fit some);
+        weighs = rw (is .first-is, is .second-is) (is .weighs);
+      }
+
+  module _ {C n j : ℕ} {best : Sum} (walked : Walked ts es us fs C n j best) where
+    pub walk-fits :
+        {r : ℕ} → n < length ts → r ≤ j → ((k : ℕ) → r ≤ k → k < j → C < getD es n 0 + getD fs k 0) →
+        (0 < r → getD es n 0 + getD fs (r - 1) 0 ≤ C) → Fit fs (getD es n 0) C r
+    walk-fits h l between fits =
+        fit-from (walked .fits-in-list) (λ k a b. walked .beyond n k (omega arith) (omega (arith, first .one-length)) a b) l between fits
+
+    pub walk-more :
+        {r : ℕ} {candidate next : Sum} → n < length ts → Fit fs (getD es n 0) C r → 0 < r → Weighed ts es us fs candidate n (r - 1) →
+        Chosen best candidate next → Walked ts es us fs C (n + 1) r next
+    walk-more h fit some is (inl (before, e)) =
+        record {
+          in-list = omega arith;
+          fits-in-list = fit .in-list;
+          beyond = beyond-next n fit;
+          best-is = rw (e, is .first-is, is .second-is) (best-taken (walked .best-is) fit some (sooner-eq (is .weighs) (walked .weighs) before));
+          weighs = rw (e, is .first-is, is .second-is) (is .weighs);
+        }
+    walk-more h fit some is (inr (later, e)) =
+        record {
+          in-list = omega arith;
+          fits-in-list = fit .in-list;
+          beyond = beyond-next n fit;
+          best-is = rw e (best-kept (walked .best-is) fit some (notLater-eq (is .weighs) (rw (walked .weighs) at later)));
+          weighs = rw e (walked .weighs);
+        }
+
+    -- nothing fits beside entry n, so nothing does beside a later one
+    pub walk-stops : {r : ℕ} → n < length ts → Fit fs (getD es n 0) C r → r ≡ 0 → BestPlaces ts es us fs C (best .first) (best .second)
+    walk-stops h fit e = best-all (walked .in-list) (walked .best-is) later
+      where
+        later : (a b : ℕ) → n ≤ a → a < length ts → b < length us → Within energy C (sum a b) → ⊥
+        later a b l k o w = pick (ℕ-discrete a n)
+          where
+            pick : Dec (a ≡ n) → ⊥
+            pick (yes d) = omega (arith, fit .beyond b (omega arith) (omega (arith, second .one-length)), ap (λ z. getD es z 0) d)
+            pick (no d) =
+                omega
+                (arith, beyond-next n fit a b (omega arith) (omega (arith, first .one-length)) (omega arith) (omega (arith, second .one-length)))
+
+    -- there is no entry more
+    pub walk-ends : length ts ≤ n → BestPlaces ts es us fs C (best .first) (best .second)
+    walk-ends h = best-all (walked .in-list) (walked .best-is) (λ a b l k o w. omega arith)

@@ -1,0 +1,164 @@
+// The best sum of two lists within a limit, and Limited join.
+use crate::Places;
+use crate::SumAnswer;
+use crate::form::join_number;
+use paths::energy::Energy;
+use paths::seconds::Seconds;
+ghost use mathlib.Core.Path.{_≡_};
+ghost use mathlib.Core.Logic.{_⊎_};
+ghost use Prim.Native.Nat.{ℕ, _+_, _-_, _≤_, _<_, _^_};
+ghost use lib.ListN.{length, getD};
+ghost use Rattle.paths.specs.Weights.{energy, pair, Sooner, NotLater};
+ghost use Rattle.lists.specs.Entries.{IsList};
+ghost use Rattle.lists.specs.Sums.{sumAt, BestFound};
+ghost use Rattle.lists.specs.Answers.{LimitedJoin, sumNumberOf, sumTimeOf, sumEnergyOf};
+
+// A sum of an entry of the first list and one of the second: their places, and its time and energy.
+struct Sum {
+    first: usize,
+    second: usize,
+    time: Seconds,
+    units: Energy,
+}
+
+fn sum_at(
+    times: &[u32],
+    energies: &[u32],
+    more_times: &[u32],
+    more_energies: &[u32],
+    i: usize,
+    j: usize,
+) -> Sum
+    requires { ⌜ IsList 2147483647 (now times) (now energies) ⌝ }
+    requires { ⌜ IsList 2147483647 (now «more_times») (now «more_energies») ⌝ }
+    requires { ⌜ i < length (now times) ⌝ }
+    requires { ⌜ j < length (now «more_times») ⌝ }
+    ensures { λ r. ⌜ r .first ≡ i ⌝ }
+    ensures { λ r. ⌜ r .second ≡ j ⌝ }
+    ensures { λ r.
+        ⌜ pair (r .time .0) (r .units .0) ≡
+        sumAt (now (times .entry)) (now (energies .entry)) (now («more_times» .entry)) (now («more_energies» .entry)) i j ⌝ }
+{
+    Sum {
+        first: i,
+        second: j,
+        time: Seconds(times[i]).plus(Seconds(more_times[j])),
+        units: Energy(energies[i]).plus(Energy(more_energies[j])),
+    }
+}
+
+// The candidate if it comes before the best as an answer: less time, or equal time and less energy.
+fn better(best: Sum, candidate: Sum) -> Sum
+    ensures { λ r.
+        ⌜ (Sooner energy (pair (candidate .time .0) (candidate .units .0)) (pair (best .time .0) (best .units .0)) × (r ≡ candidate)) ⊎
+        (NotLater energy (pair (best .time .0) (best .units .0)) (pair (candidate .time .0) (candidate .units .0)) × (r ≡ best)) ⌝ }
+{
+    if candidate.time.below(best.time) {
+        return candidate;
+    }
+    if best.time.below(candidate.time) {
+        return best;
+    }
+    if candidate.units.below(best.units) {
+        return candidate;
+    }
+    best
+}
+
+// Down from `from`, past the entries of the second list that do not fit beside `units` within the limit.
+fn fitting(more_energies: &[u32], units: Energy, limit: Energy, from: usize) -> usize
+    requires { ⌜ from ≤ length (now «more_energies») ⌝ }
+    requires { ⌜ ((k : ℕ) → k < from → units .0 + getD (now «more_energies») k 0 < 2 ^ 32) ⌝ }
+    ensures { λ r. ⌜ r ≤ from ⌝ }
+    ensures { λ r. ⌜ ((k : ℕ) → r ≤ k → k < from → limit .0 < units .0 + getD (now («more_energies» .entry)) k 0) ⌝ }
+    ensures { λ r. ⌜ (0 < r → units .0 + getD (now («more_energies» .entry)) (r - 1) 0 ≤ limit .0) ⌝ }
+{
+    let mut j = from;
+    while j > 0 {
+        let last = j - 1;
+        let sum = units.plus(Energy(more_energies[last]));
+        if !limit.below(sum) {
+            return j;
+        }
+        j = last;
+    }
+    j
+}
+
+// One walk up the first list and down the second: as the first entry's energy rises, fewer entries of the second fit beside it,
+// and the last that fits is the quickest.
+pub fn best_sum(
+    times: &[u32],
+    energies: &[u32],
+    more_times: &[u32],
+    more_energies: &[u32],
+    limit: Energy,
+) -> Places
+    requires { ⌜ IsList 2147483647 (now times) (now energies) ⌝ }
+    requires { ⌜ IsList 2147483647 (now «more_times») (now «more_energies») ⌝ }
+    ensures { λ r.
+        ⌜ BestFound (now (times .entry)) (now (energies .entry)) (now («more_times» .entry)) (now («more_energies» .entry)) (limit .0) r ⌝ }
+{
+    if times.len() == 0 {
+        return Places::Nowhere;
+    }
+    let mut j = fitting(
+        more_energies,
+        Energy(energies[0]),
+        limit,
+        more_energies.len(),
+    );
+    if j == 0 {
+        return Places::Nowhere;
+    }
+    let mut best = sum_at(times, energies, more_times, more_energies, 0, j - 1);
+    let mut i = 1;
+    while i < times.len() {
+        j = fitting(more_energies, Energy(energies[i]), limit, j);
+        if j == 0 {
+            return Places::At(best.first, best.second);
+        }
+        best = better(
+            best,
+            sum_at(times, energies, more_times, more_energies, i, j - 1),
+        );
+        i += 1;
+    }
+    Places::At(best.first, best.second)
+}
+
+// Limited join, for any input.
+pub fn limited_join(
+    times: &[u32],
+    energies: &[u32],
+    more_times: &[u32],
+    more_energies: &[u32],
+    limit: u32,
+) -> SumAnswer
+    ensures { λ r.
+        ⌜ LimitedJoin
+        (now (times .entry))
+        (now (energies .entry))
+        (now («more_times» .entry))
+        (now («more_energies» .entry))
+        limit
+        (sumNumberOf r)
+        (sumTimeOf r)
+        (sumEnergyOf r) ⌝ }
+{
+    let number = join_number(times, energies, more_times, more_energies);
+    if number == 41 {
+        return SumAnswer::LengthsDiffer;
+    }
+    if number == 42 {
+        return SumAnswer::IllFormed;
+    }
+    let places = best_sum(times, energies, more_times, more_energies, Energy(limit));
+    let Places::At(i, j) = places else {
+        return SumAnswer::OverLimit;
+    };
+    let sum = sum_at(times, energies, more_times, more_energies, i, j);
+    let time = sum.time;
+    let units = sum.units;
+    SumAnswer::Found(time, units)
+}
