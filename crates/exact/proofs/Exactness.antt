@@ -60,14 +60,15 @@ module _ {net s : List ℕ} (beside : Beside net s) where
   lists-ordered =
       record {
         rises = λ above. ordered-rises (stored-ordered (beside .labels) above);
-        unbeaten = λ above. ordered-none-beaten (stored-ordered (beside .labels) above)
+        unbeaten = λ above. ordered-none-beaten (stored-ordered (beside .labels) above);
       }
 
   -- the test road by road decides whether every list is right
   pub agreeing-is-right : AllAgree (networkOf net) (parentsOf s) (stored s) ↔ EveryListRight net s
-  agreeing-is-right =
-      (λ all. record { right = λ above. exact .0 all .right above },
-       λ every. exact .1 (record { right = λ above. every .right above }))
+  agreeing-is-right = (
+    λ all. record { right = λ above. exact .0 all .right above },
+    λ every. exact .1 (record { right = λ above. every .right above }),
+  )
     where
       exact : AllAgree (networkOf net) (parentsOf s) (stored s) ↔ AllRight (networkOf net) (parentsOf s) (stored s)
       exact = label-test-exact number-lawful roads-two-way roads-joined parents-forest lists-ordered

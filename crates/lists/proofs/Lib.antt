@@ -6,3 +6,7 @@ pub mod Walk
 pub mod SumAnswers
 pub mod LimitedUnique
 pub mod Marks
+pub mod JoinLaws
+pub mod JoinBackwards
+pub mod JoinSteps
+pub mod JoinAnswers

@@ -27,5 +27,6 @@ pub enum SumAnswer {
 
 pub mod cover;
 pub mod form;
+pub mod join;
 pub mod sums;
 pub mod within;

@@ -14,14 +14,14 @@ ghost use Rattle.lists.specs.Sums.{sumAt, BestFound};
 ghost use Rattle.lists.specs.Answers.{LimitedJoin, sumNumberOf, sumTimeOf, sumEnergyOf};
 
 // A sum of an entry of the first list and one of the second: their places, and its time and energy.
-struct Sum {
-    first: usize,
-    second: usize,
-    time: Seconds,
-    units: Energy,
+pub struct Sum {
+    pub first: usize,
+    pub second: usize,
+    pub time: Seconds,
+    pub units: Energy,
 }
 
-fn sum_at(
+pub fn sum_at(
     times: &[u32],
     energies: &[u32],
     more_times: &[u32],

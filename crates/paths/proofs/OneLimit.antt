@@ -120,7 +120,7 @@ placed (List·Memᴰ·tail {x = x} m) =
     let z = placed m in record { before = x ∷ z .before; after = z .after; splits = ap (λ k. x ∷ k) (z .splits) }
 
 module _ {l : List Weight} {C : ℕ} {p : Weight} (ordered : Ordered l) where
-  last-is-best : LastWithin l C p → BestEntry energy l C p
+  pub last-is-best : LastWithin l C p → BestEntry energy l C p
   last-is-best z =
       record {
         member = rw (z .splits) (Memᴰ·append-right (z .before) (List·Memᴰ·head refl));
@@ -136,7 +136,7 @@ module _ {l : List Weight} {C : ℕ} {p : Weight} (ordered : Ordered l) where
       pick q h (inl m) = sooner (by-time (earlier-slower (z .before) p (z .after) (rw (z .splits) at ordered) m))
       pick q h (inr m) = rest q h (List·Memᴰ·cases-cons m)
 
-  best-is-last-entry : BestEntry energy l C p → LastWithin l C p
+  pub best-is-last-entry : BestEntry energy l C p → LastWithin l C p
   best-is-last-entry b =
       let z = placed (b .member) in
       record {
