@@ -5,7 +5,8 @@ use mathlib.Core.List.{List}
 use Prim.Native.Nat.{ℕ, _-_, _≤_, _<_}
 use lib.ListN.{length, getD}
 use Rattle.network.specs.NetworkFile.{junctionsOf}
-use Rattle.files.specs.LabelFile.{parentAt}
+use Rattle.paths.specs.Forest.{Above}
+use Rattle.files.specs.LabelFile.{parentAt, parentsOf}
 use Rattle.files.specs.Forest.{depthOf, ancestorOf}
 use Rattle.files.specs.Stored.{listPlace, startOf}
 
@@ -22,3 +23,8 @@ pub record AtLevel (s : List ℕ) (d : ℕ) (tops places : List ℕ) : Type 0 wh
 pub record RowOf (s : List ℕ) (u : ℕ) (row : List ℕ) : Type 0 where
   pub row-length : length row ≡ 1024
   pub own : (k : ℕ) → k < depthOf s u → getD row k 0 ≡ listPlace s u (ancestorOf s u (depthOf s u - k))
+
+-- The bytes of the lists for u of the junctions below u
+pub record PlacesFor (s : List ℕ) (u : ℕ) (places : List ℕ) : Type 0 where
+  pub places-length : length places ≡ 1024
+  pub place : (w : ℕ) → w < junctionsOf s → Above (parentsOf s) u w → getD places w 0 ≡ listPlace s w u
