@@ -4,3 +4,5 @@ pub mod FaultLoop
 pub mod NetworkTests
 pub mod Accepted
 pub mod Arcs
+pub mod RoadsAt
+pub mod GroupedRoads

@@ -6,3 +6,4 @@ pub mod NetworkFile
 pub mod NetworkTests
 pub mod Fits
 pub mod Roads
+pub mod RoadsRead

@@ -1,0 +1,116 @@
+// The roads of a network that passed, and the roads at each junction in file order.
+use super::bytes::u16_at;
+use super::bytes::u32_at;
+use paths::energy::Energy;
+use paths::seconds::Seconds;
+ghost use mathlib.Core.Path.{_≡_};
+ghost use mathlib.Core.Bool.{true};
+ghost use Prim.Native.Nat.{suc, _+_, _*_, _≤_, _<_};
+ghost use lib.ListN.{length};
+ghost use Rattle.network.specs.Reads.{ReadU16};
+ghost use Rattle.network.specs.NetworkFile.{roadsOf};
+ghost use Rattle.network.specs.Roads.{touches, nextRoad, Grouped};
+ghost use Rattle.network.specs.RoadsRead.{ReadOther, NextsFilled, FilledBelow, GroupedFrom};
+ghost use Rattle.network.specs.Fits.{NetworkFits};
+
+// The lower end of road k.
+pub fn road_low(net: &[u8], k: usize) -> usize
+    requires { ⌜ 24 + 8 * k ≤ length (now net) ⌝ }
+    ensures { λ r. ⌜ ReadU16 (now (net .entry)) (16 + 8 * k) r ⌝ }
+{
+    u16_at(net, 16 + 8 * k) as usize
+}
+
+// The higher end of road k.
+pub fn road_high(net: &[u8], k: usize) -> usize
+    requires { ⌜ 24 + 8 * k ≤ length (now net) ⌝ }
+    ensures { λ r. ⌜ ReadU16 (now (net .entry)) (18 + 8 * k) r ⌝ }
+{
+    u16_at(net, 18 + 8 * k) as usize
+}
+
+// The time of road k.
+pub fn road_time(net: &[u8], k: usize) -> Seconds
+    requires { ⌜ 24 + 8 * k ≤ length (now net) ⌝ }
+    ensures { λ r. ⌜ ReadU16 (now (net .entry)) (20 + 8 * k) (r .0) ⌝ }
+{
+    Seconds(u16_at(net, 20 + 8 * k))
+}
+
+// The energy of road k.
+pub fn road_energy(net: &[u8], k: usize) -> Energy
+    requires { ⌜ 24 + 8 * k ≤ length (now net) ⌝ }
+    ensures { λ r. ⌜ ReadU16 (now (net .entry)) (22 + 8 * k) (r .0) ⌝ }
+{
+    Energy(u16_at(net, 22 + 8 * k))
+}
+
+// The end of road k that is not v.
+pub fn other_end(net: &[u8], v: usize, k: usize) -> usize
+    requires { ⌜ 24 + 8 * k ≤ length (now net) ⌝ }
+    ensures { λ r. ⌜ ReadOther (now (net .entry)) v k r ⌝ }
+{
+    let low = road_low(net, k);
+    let high = road_high(net, k);
+    if low == v {
+        return high;
+    }
+    low
+}
+
+// Every junction's first road is the one behind the last: none.
+fn clear_heads(none: u32, heads: &mut [u32; 1024])
+    requires { ⌜ length (now heads) ≡ 1024 ⌝ }
+    ensures { λ _. ⌜ FilledBelow (now (heads .exit)) none 1024 ⌝ }
+{
+    let mut v: usize = 0;
+    while v < 1024 {
+        heads[v] = none;
+        v += 1;
+    }
+}
+
+// Puts road k before the roads of its two ends.
+fn put_road(net: &[u8], k: usize, heads: &mut [u32; 1024], nexts: &mut [u32; 8192])
+    requires { ⌜ NetworkFits (now net) × (k < roadsOf (now net)) × GroupedFrom (now net) (now heads) (now nexts) (k + 1) ⌝ }
+    ensures { λ _. ⌜ GroupedFrom (now (net .entry)) (now (heads .exit)) (now (nexts .exit)) k ⌝ }
+{
+    let low = road_low(net, k);
+    let high = road_high(net, k);
+    nexts[2 * k] = heads[low];
+    nexts[2 * k + 1] = heads[high];
+    heads[low] = k as u32;
+    heads[high] = k as u32;
+}
+
+// Groups the roads by junction: from the last road to the first, so that each junction's roads come in file order.
+pub fn group_roads(net: &[u8], heads: &mut [u32; 1024], nexts: &mut [u32; 8192])
+    requires { ⌜ NetworkFits (now net) × (length (now heads) ≡ 1024) × (length (now nexts) ≡ 8192) ⌝ }
+    ensures { λ _. ⌜ Grouped (now (net .entry)) (now (heads .exit)) (now (nexts .exit)) ⌝ }
+{
+    let roads = u32_at(net, 8);
+    clear_heads(roads, heads);
+    let mut k = roads as usize;
+    while k > 0 {
+        k -= 1;
+        put_road(net, k, heads, nexts);
+    }
+}
+
+fn wide(x: u32) -> usize
+    ensures { λ r. ⌜ r ≡ x ⌝ }
+{
+    x as usize
+}
+
+// The road of v that follows road k.
+pub fn next_road(net: &[u8], nexts: &[u32; 8192], v: usize, k: usize) -> usize
+    requires { ⌜ NetworkFits (now net) × NextsFilled (now net) (now nexts) × (k < roadsOf (now net)) × (touches (now net) v k ≡ true) ⌝ }
+    ensures { λ r. ⌜ r ≡ nextRoad (now (net .entry)) v (suc k) ⌝ }
+{
+    let low = road_low(net, k);
+    if low == v {
+        return wide(nexts[2 * k]);
+    }
+    wide(nexts[2 * k + 1])
+}
