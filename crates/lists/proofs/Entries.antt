@@ -56,6 +56,7 @@ index-member (t ∷ ts) [] i h k = absurd (omega arith)
 index-member (t ∷ ts) (e ∷ es) zero h k = List·Memᴰ·head refl
 index-member (t ∷ ts) (e ∷ es) (suc i) h k = List·Memᴰ·tail (index-member ts es i (omega arith) (omega arith))
 
+-- the same from the record
 pub atIndex-member : {ts es : List ℕ} {p : Weight} → AtIndex ts es p → List·Memᴰ p (entries ts es)
 atIndex-member {ts} {es} z = Memᴰ·cast (sym (z .is)) (index-member ts es (z .place) (z .in-times) (z .in-energies))
 
@@ -73,12 +74,15 @@ far Before passes n step i (suc j) h k = pick (λ below. far Before passes n ste
     pick f (no apart) = passes i j (suc j) (f (omega arith)) (step j k)
 
 module _ {most : ℕ} {ts es : List ℕ} (right : IsList most ts es) where
+  -- a later entry has more energy
   pub energy-rises-far : (i j : ℕ) → i < j → j < length es → getD es i 0 < getD es j 0
   energy-rises-far = far (λ i j. getD es i 0 < getD es j 0) (λ i j k a b. omega arith) (length es) (right .energy-rises)
 
+  -- and less time
   pub time-falls-far : (i j : ℕ) → i < j → j < length ts → getD ts j 0 < getD ts i 0
   time-falls-far = far (λ i j. getD ts j 0 < getD ts i 0) (λ i j k a b. omega arith) (length ts) (right .time-falls)
 
+-- without its first entry it is still a list
 pub isList-tail : {most t e : ℕ} {ts es : List ℕ} → IsList most (t ∷ ts) (e ∷ es) → IsList most ts es
 isList-tail right =
     record {
@@ -99,6 +103,7 @@ isList-ordered (t ∷ u ∷ ts) (e ∷ []) right = one
 isList-ordered (t ∷ u ∷ ts) (e ∷ f ∷ es) right =
     more (right .energy-rises 0 (omega arith)) (right .time-falls 0 (omega arith)) (isList-ordered (u ∷ ts) (f ∷ es) (isList-tail right))
 
+-- numbers that are small enough are so for a larger bound
 pub isList-more : {m n : ℕ} {ts es : List ℕ} → IsList m ts es → m ≤ n → IsList n ts es
 isList-more right h =
     record {
@@ -111,6 +116,7 @@ isList-more right h =
 
 -- ---- The two slices of the entries
 
+-- the times and the energies come back
 pub times-entries : (ts es : List ℕ) → length ts ≡ length es → times (entries ts es) ≡ ts
 unfolding entries
 times-entries [] es h = refl
@@ -138,6 +144,7 @@ pub record Fits (ts es : List ℕ) (i : ℕ) : Type 0 where
   pub small-energy : getD es i 0 ≤ mostNumber
   pub in-order : follows ts es i ≡ true
 
+-- the test of an entry tells what it keeps to
 pub entryFits-keeps : (ts es : List ℕ) (i : ℕ) → entryFits ts es i ≡ true → Fits ts es i
 unfolding entryFits
 entryFits-keeps ts es i h =
@@ -145,6 +152,7 @@ entryFits-keeps ts es i h =
     let b = and-both (leb (getD ts i 0) mostNumber) (leb (getD es i 0) mostNumber) (a .0) in
     record { small-time = leb-true _ _ (b .0); small-energy = leb-true _ _ (b .1); in-order = a .1 }
 
+-- a list that passes 42 is a list
 pub wellFormed-isList : (ts es : List ℕ) → length ts ≡ length es → wellFormed ts es ≡ true → IsList mostNumber ts es
 unfolding wellFormed
 wellFormed-isList ts es h w =
@@ -169,13 +177,14 @@ pub wellFormed-short : (ts es : List ℕ) → wellFormed ts es ≡ true → leng
 unfolding wellFormed
 wellFormed-short ts es w = leb-true _ _ (and-both (leb (length ts) mostEntries) (every (entryFits ts es) (length ts)) w .0)
 
--- Both pairs of slices are lists
+-- Both pairs of slices are lists, and short
 pub record BothLists (most : ℕ) (ts es us fs : List ℕ) : Type 0 where
   pub first : IsList most ts es
   pub second : IsList most us fs
   pub first-short : length ts ≤ mostEntries
   pub second-short : length us ≤ mostEntries
 
+-- a join's 0 tells that both are lists
 pub joinNumber-passed : (ts es us fs : List ℕ) → joinNumber ts es us fs ≡ 0 → BothLists mostNumber ts es us fs
 unfolding joinNumber
 joinNumber-passed ts es us fs h =

@@ -15,6 +15,7 @@ pub record SameAnswer (number time units number′ time′ units′ : ℕ) : Typ
   pub times : time ≡ time′
   pub energies : units ≡ units′
 
+-- two answers are one
 pub limitedJoin-unique :
     {ts es us fs : List ℕ} {C number time units number′ time′ units′ : ℕ} →
     LimitedJoin ts es us fs C number time units →

@@ -19,10 +19,12 @@ test-fails {a} e t = sym e ∙ not-true a t
 pub test-holds : {a b : Bool} → a ≡ b → not a ≡ false → b ≡ true
 test-holds {a} e t = sym e ∙ not-false a t
 
+-- a test that holds leaves the next one
 and-holds : {a : Bool} (b : Bool) → a ≡ true → (a && b) ≡ b
 and-holds true p = rw p
 and-holds false p = rw p
 
+-- a test that fails gives its number, one that holds the next
 unless-fails : {test : Bool} (number next : ℕ) → test ≡ false → unless test number next ≡ number
 unless-fails number next e = rw e
 
@@ -32,6 +34,7 @@ unless-holds number next e = rw e
 module _ (ts es : List ℕ) where
   -- ---- An entry's order
 
+  -- the order of an entry that is not the first
   later-follows : (i : ℕ) → (i ≡ 0 → ⊥) → follows ts es i ≡ (ltb (getD es (i - 1) 0) (getD es i 0) && ltb (getD ts i 0) (getD ts (i - 1) 0))
   later-follows zero h = absurd (h refl)
   later-follows (suc i) h = rw before
@@ -53,14 +56,17 @@ module _ (ts es : List ℕ) where
   -- ---- An entry
 
   module _ (i : ℕ) where
+    -- its time is too large
     pub fits-not-time : leb (getD ts i 0) mostNumber ≡ false → false ≡ entryFits ts es i
     unfolding entryFits
     fits-not-time f = sym (and-false-left (follows ts es i) (and-false-left (leb (getD es i 0) mostNumber) f))
 
+    -- its energy is too large
     pub fits-not-energy : leb (getD es i 0) mostNumber ≡ false → false ≡ entryFits ts es i
     unfolding entryFits
     fits-not-energy f = sym (and-false-left (follows ts es i) (and-false-right (leb (getD ts i 0) mostNumber) f))
 
+    -- both are small enough: the order decides
     pub fits-order :
         {ordered : Bool} → leb (getD ts i 0) mostNumber ≡ true → leb (getD es i 0) mostNumber ≡ true → ordered ≡ follows ts es i →
         ordered ≡ entryFits ts es i
@@ -70,10 +76,12 @@ module _ (ts es : List ℕ) where
 
   -- ---- A list
 
+  -- too many entries
   pub formed-long : mostEntries < length ts → false ≡ wellFormed ts es
   unfolding wellFormed
   formed-long h = sym (and-false-left (every (entryFits ts es) (length ts)) (lt-leb _ _ h))
 
+  -- an entry that does not fit
   pub formed-not : {i : ℕ} → i < length ts → entryFits ts es i ≡ false → false ≡ wellFormed ts es
   unfolding wellFormed
   formed-not h f = sym (and-false-right (leb (length ts) mostEntries) (every-fails (entryFits ts es) (length ts) h f))
@@ -86,29 +94,35 @@ module _ (ts es : List ℕ) where
 -- ---- Two lists
 
 module _ (ts es us fs : List ℕ) where
+  -- 41 by the first list
   pub lengths-differ : (length ts ≡ length es → ⊥) → 41 ≡ joinNumber ts es us fs
   unfolding joinNumber
   lengths-differ h = sym (unless-fails 41 _ (ne-eqb _ _ h))
 
+  -- 41 by the second
   pub more-lengths-differ : length ts ≡ length es → (length us ≡ length fs → ⊥) → 41 ≡ joinNumber ts es us fs
   unfolding joinNumber
   more-lengths-differ e h = sym (unless-holds 41 _ (eq-eqb _ _ e) ∙ unless-fails 41 _ (ne-eqb _ _ h))
 
   module _ (e : length ts ≡ length es) (f : length us ≡ length fs) where
+    -- equal lengths leave 42
     formed-left : joinNumber ts es us fs ≡ unless (wellFormed ts es) 42 (unless (wellFormed us fs) 42 0)
     unfolding joinNumber
     formed-left = unless-holds 41 _ (eq-eqb _ _ e) ∙ unless-holds 41 _ (eq-eqb _ _ f)
 
+    -- 42 by the first list
     pub ill-formed : wellFormed ts es ≡ false → 42 ≡ joinNumber ts es us fs
     ill-formed w = sym (formed-left ∙ unless-fails 42 _ w)
 
+    -- 42 by the second
     pub more-ill-formed : wellFormed ts es ≡ true → wellFormed us fs ≡ false → 42 ≡ joinNumber ts es us fs
     more-ill-formed w v = sym (formed-left ∙ unless-holds 42 _ w ∙ unless-fails 42 0 v)
 
+    -- neither
     pub both-formed : wellFormed ts es ≡ true → wellFormed us fs ≡ true → 0 ≡ joinNumber ts es us fs
     both-formed w v = sym (formed-left ∙ unless-holds 42 _ w ∙ unless-holds 42 0 v)
 
--- the number is 0 if it is neither 41 nor 42
+-- no other number is given: what is neither 41 nor 42 is 0
 neither : (a b c d : Bool) {n : ℕ} → n ≡ unless a 41 (unless b 41 (unless c 42 (unless d 42 0))) → (n ≡ 41 → ⊥) → (n ≡ 42 → ⊥) → n ≡ 0
 neither false b c d e h k = absurd (h e)
 neither true false c d e h k = absurd (h e)
@@ -116,6 +130,7 @@ neither true true false d e h k = absurd (k e)
 neither true true true false e h k = absurd (k e)
 neither true true true true e h k = e
 
+-- the same of a call's answer
 pub both-pass : (ts es us fs : List ℕ) {n : ℕ} → n ≡ joinNumber ts es us fs → (n ≡ 41 → ⊥) → (n ≡ 42 → ⊥) → joinNumber ts es us fs ≡ 0
 unfolding joinNumber
 both-pass ts es us fs e h k =

@@ -35,9 +35,11 @@ module _ (ts es us fs : List ℕ) where
           second-short = z .second-short;
         }
 
+    -- no sum within the limit
     pub answer-over : {C : ℕ} {r : Places} → r ≡ Nowhere → BestFound ts es us fs C r → LimitedJoin ts es us fs C 23 0 0
     answer-over {C} e h = over-limit passed (nowhere-noSum ts es us fs (subst (BestFound ts es us fs C) e h)) refl refl refl
 
+    -- the best sum
     pub answer-found :
         {C i j time units : ℕ} → BestPlaces ts es us fs C i j → pair time units ≡ sumAt ts es us fs i j → LimitedJoin ts es us fs C 0 time units
     answer-found {C} {i} {j} {time} {units} best e = found passed (rw e best-sum) refl

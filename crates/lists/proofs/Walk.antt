@@ -42,11 +42,13 @@ pub energies-add :
     getD es i 0 + getD fs k 0 < 2 ^ 32
 energies-add first second h l k m = energy-adds first second (omega (arith, first .one-length)) (omega arith)
 
+-- a pair of equal numbers
 pub pair-is : {t e t′ e′ : ℕ} → t ≡ t′ → e ≡ e′ → pair t e ≡ pair t′ e′
 pair-is p q = λ i. record { first = q i; second = p i }
 
 -- ---- Two sums compared
 
+-- The weight of a sum
 abbrev pub weightOf : Sum → Weight
 weightOf s = pair (s .time .0) (s .units .0)
 
@@ -57,10 +59,12 @@ Chosen best candidate r =
     (NotLater energy (weightOf best) (weightOf candidate) × (r ≡ best))
 
 module _ (best candidate : Sum) {quicker : Bool} (q : quicker ≡ ltb (candidate .time .0) (best .time .0)) where
+  -- less time
   pub chosen-quicker : quicker ≡ true → Chosen best candidate candidate
   chosen-quicker t = inl (by-time (ltb-true _ _ (sym q ∙ t)), refl)
 
   module _ {slower : Bool} (s : slower ≡ ltb (best .time .0) (candidate .time .0)) where
+    -- more time
     pub chosen-slower : slower ≡ true → Chosen best candidate best
     chosen-slower t = inr (sooner (by-time (ltb-true _ _ (sym s ∙ t))), refl)
 
@@ -72,9 +76,11 @@ module _ (best candidate : Sum) {quicker : Bool} (q : quicker ≡ ltb (candidate
           let b : candidate .time .0 ≤ best .time .0 = ltb-false _ _ (sym s ∙ g) in
           omega arith
 
+      -- less energy
       pub chosen-cheaper : cheaper ≡ true → Chosen best candidate candidate
       chosen-cheaper t = inl (by-figures one-time (ltb-true _ _ (sym e ∙ t)), refl)
 
+      -- no less
       pub chosen-kept : cheaper ≡ false → Chosen best candidate best
       chosen-kept n = inr (pick (ltb-false _ _ (sym e ∙ n)) (decLe (candidate .units .0) (best .units .0)), refl)
         where
@@ -84,11 +90,12 @@ module _ (best candidate : Sum) {quicker : Bool} (q : quicker ≡ ltb (candidate
               same (pair-is (sym one-time) z)
           pick l (no h) = sooner (by-figures (sym one-time) (omega arith))
 
--- what is sooner is not kept waiting
+-- what is sooner is not also no sooner
 not-both : {p q : Weight} → Sooner energy q p → NotLater energy p q → ⊥
 not-both h (sooner k) = sooner-irrefl number-lawful (sooner-trans number-lawful h k) refl
 not-both h (same e) = sooner-irrefl number-lawful h (sym e)
 
+-- equal weights are equally soon
 sooner-eq : {p q r s : Weight} → p ≡ r → q ≡ s → Sooner energy p q → Sooner energy r s
 sooner-eq {q = q} {r = r} e f h = subst (λ z. Sooner energy r z) f (subst (λ z. Sooner energy z q) e h)
 
@@ -124,7 +131,7 @@ noneFrom-more {fs} {units} {C} {from} {j} {sum} none-fits h s e f = record { in-
 pub fits-here : (units x : ℕ) {C sum : ℕ} {over : Bool} → sum ≡ units + x → over ≡ ltb C sum → not over ≡ true → units + x ≤ C
 fits-here units x {C} {sum} s e t = let z : sum ≤ C = ltb-false _ _ (test-fails e t) in omega arith
 
--- The first j entries fit beside units within C, and no other does
+-- Entry j - 1 is the last that fits beside units within C; if j is 0, none does
 pub record Fit (fs : List ℕ) (units C j : ℕ) : Type 0 where
   pub in-list : j ≤ length fs
   pub last : 0 < j → units + getD fs (j - 1) 0 ≤ C
@@ -296,6 +303,7 @@ module _ {most : ℕ} {ts es us fs : List ℕ} (first : IsList most ts es) (seco
       omega
       (arith, beyond-next 0 fit (suc a) b (omega arith) (omega (arith, first .one-length)) (omega arith) (omega (arith, second .one-length)))
 
+  -- the first entry has a sum
   pub walk-starts :
       {C j : ℕ} {s : Sum} → 0 < length ts → Fit fs (getD es 0 0) C j → 0 < j → Weighed ts es us fs s 0 (j - 1) → Walked ts es us fs C 1 j s
   walk-starts {C} {j} {s} h fit some is =
@@ -308,12 +316,14 @@ module _ {most : ℕ} {ts es us fs : List ℕ} (first : IsList most ts es) (seco
       }
 
   module _ {C n j : ℕ} {best : Sum} (walked : Walked ts es us fs C n j best) where
+    -- what the search down from j gives
     pub walk-fits :
         {r : ℕ} → n < length ts → r ≤ j → ((k : ℕ) → r ≤ k → k < j → C < getD es n 0 + getD fs k 0) →
         (0 < r → getD es n 0 + getD fs (r - 1) 0 ≤ C) → Fit fs (getD es n 0) C r
     walk-fits h l between fits =
         fit-from (walked .fits-in-list) (λ k a b. walked .beyond n k (omega arith) (omega (arith, first .one-length)) a b) l between fits
 
+    -- entry n has a sum, and the better of it and the best is kept
     pub walk-more :
         {r : ℕ} {candidate next : Sum} → n < length ts → Fit fs (getD es n 0) C r → 0 < r → Weighed ts es us fs candidate n (r - 1) →
         Chosen best candidate next → Walked ts es us fs C (n + 1) r next

@@ -21,6 +21,7 @@ pub struct Sum {
     pub units: Energy,
 }
 
+// The sum of entry i of the first list and entry j of the second.
 pub fn sum_at(
     times: &[u32],
     energies: &[u32],
@@ -127,7 +128,7 @@ pub fn best_sum(
     Places::At(best.first, best.second)
 }
 
-// Limited join, for any input.
+// Limited join, for all inputs.
 pub fn limited_join(
     times: &[u32],
     energies: &[u32],
