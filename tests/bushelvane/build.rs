@@ -1,0 +1,20 @@
+//! Links the static library `labels_c` from BUSHELVANE_LIB_DIR, or from where the project leaves it.
+
+use std::env;
+use std::path::PathBuf;
+
+fn main() {
+    let here = PathBuf::from(env::var_os("CARGO_MANIFEST_DIR").expect("cargo sets it"));
+    let folder = match env::var_os("BUSHELVANE_LIB_DIR") {
+        Some(folder) => PathBuf::from(folder),
+        None => here.join("../../target/staticlib"),
+    };
+    println!("cargo::rerun-if-env-changed=BUSHELVANE_LIB_DIR");
+    // Without this a rebuilt library would be compared in its old form.
+    println!(
+        "cargo::rerun-if-changed={}",
+        folder.join("liblabels_c.a").display()
+    );
+    println!("cargo::rustc-link-search=native={}", folder.display());
+    println!("cargo::rustc-link-lib=static=labels_c");
+}
