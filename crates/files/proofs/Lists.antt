@@ -22,17 +22,21 @@ use Rattle.files.proofs.Tabulate.{Stands, member-stands}
 
 -- ---- Three tests in a row, of which the code makes each that is still asked
 
+-- the first fails, and no other is made
 pub first-fails : {x a : Bool} (b c : Bool) → x ≡ a → not x ≡ true → false ≡ (a && b && c)
 first-fails {x} b c e h = sym (and-false-left c (and-false-left b (sym e ∙ not-true x h)))
 
+-- the second fails
 pub second-fails : {y b : Bool} (a c : Bool) → y ≡ b → not y ≡ true → false ≡ (a && b && c)
 second-fails {y} a c e h = sym (and-false-left c (and-false-right a (sym e ∙ not-true y h)))
 
+-- both hold, and the third is the answer
 pub third-decides : {x y z a b c : Bool} → x ≡ a → not x ≡ false → y ≡ b → not y ≡ false → z ≡ c → z ≡ (a && b && c)
 third-decides {x} {y} e h f k g = rw (sym e ∙ not-false x h, sym f ∙ not-false y k) g
 
 -- ---- The rules of one entry
 
+-- a refusal number is not 0
 never-zero : (number : ℕ) → suc number ≡ 0 → ⊥
 never-zero number e = omega arith
 
@@ -70,6 +74,7 @@ pub record EnergyRules (s : List ℕ) (at j : ℕ) : Type 0 where
   pub most : energyAt s at j ≤ mostFigure
   pub follows : energyFollows s at j ≡ true
 
+-- the time's test holds exactly if its rules do
 pub time-rules : {s : List ℕ} {at j : ℕ} → timeFits s at j ≡ true → TimeRules s at j
 unfolding timeFits
 time-rules {s} {at} {j} e =
@@ -81,6 +86,7 @@ pub rules-time : {s : List ℕ} {at j : ℕ} → TimeRules s at j → timeFits s
 unfolding timeFits
 rules-time h = and-true (and-true (le-leb _ _ (h .least)) (le-leb _ _ (h .most))) (h .follows)
 
+-- likewise the energy's
 pub energy-rules : {s : List ℕ} {at j : ℕ} → energyFits s at j ≡ true → EnergyRules s at j
 unfolding energyFits
 energy-rules {s} {at} {j} e =
@@ -94,6 +100,7 @@ rules-energy h = and-true (and-true (le-leb _ _ (h .least)) (le-leb _ _ (h .most
 
 -- ---- A list whose number is 0 fits, and back
 
+-- a list whose number is 0 fits
 pub list-fits : (s : List ℕ) (at : ℕ) → listNumber s at ≡ 0 → ListFits s at
 unfolding listNumber listEnd
 list-fits s at e = built
@@ -129,6 +136,7 @@ list-fits s at e = built
           energy-rises = λ j h. ltb-true _ _ (units (suc j) h .follows);
         }
 
+-- and back
 pub fits-list-number : {s : List ℕ} {at : ℕ} → ListFits s at → listNumber s at ≡ 0
 unfolding listNumber listEnd
 fits-list-number {s} {at} fits = rw (le-leb (at + 2) (length s) (omega (arith, fits .inside)), le-leb (countAt s at) mostCount (fits .short), passes)
@@ -154,10 +162,12 @@ fits-list-number {s} {at} fits = rw (le-leb (at + 2) (length s) (omega (arith, f
 
 -- ---- All lists
 
+-- where no list has a fault, every list fits
 pub lists-fit : (s : List ℕ) → listsNumber s ≡ 0 → {g : ℕ} → g < listsOf s → ListFits s (placeOf s g)
 unfolding listsNumber
 lists-fit s e {g} h = list-fits s (placeOf s g) (no-fault (λ g. listNumber s (placeOf s g)) (listsOf s) e (omega arith) (omega arith))
 
+-- and back
 pub fits-lists-number : (s : List ℕ) → ((g : ℕ) → g < listsOf s → ListFits s (placeOf s g)) → listsNumber s ≡ 0
 unfolding listsNumber
 fits-lists-number s fit = all-pass (λ g. listNumber s (placeOf s g)) (listsOf s) (λ g h l. fits-list-number (fit g (omega arith)))
@@ -177,6 +187,7 @@ ordered-tabulate t e (suc (suc n)) rises falls =
     more (rises 0 (omega arith)) (falls 0 (omega arith))
     (ordered-tabulate (λ j. t (suc j)) (λ j. e (suc j)) (suc n) (λ j h. rises (suc j) (omega arith)) (λ j h. falls (suc j) (omega arith)))
 
+-- the entries of a list that fits are ordered
 pub list-ordered : {s : List ℕ} {at : ℕ} → ListFits s at → Ordered (listAt s at)
 list-ordered {s} {at} fits = ordered-tabulate (timeAt s at) (energyAt s at) (countAt s at) (fits .energy-rises) (fits .time-falls)
 

@@ -23,19 +23,23 @@ module _ (s : List ℕ) where
   unfolding listEnd
   list-takes at = omega arith
 
+  -- list number g + 1 starts where list number g ends
   pub place-next : (g : ℕ) → placeOf s (g + 1) ≡ listEnd s (placeOf s g)
   unfolding placeOf
   place-next g = rw (add-one g)
 
+  -- places rise from list to list
   pub places-rise : (g : ℕ) → placeOf s g + 2 ≤ placeOf s (g + 1)
   places-rise g = rw (place-next g) (list-takes (placeOf s g))
 
   -- ---- A number of lists further on
 
+  -- one list more
   pub further-next : (at k : ℕ) → further s at (k + 1) ≡ listEnd s (further s at k)
   unfolding further
   further-next at k = rw (add-one k)
 
+  -- no list further is here
   pub further-none : (at : ℕ) → further s at 0 ≡ at
   unfolding further
   further-none at = refl
@@ -55,6 +59,7 @@ module _ (s : List ℕ) where
     pub few : i ≤ k
     pub is : here ≡ further s at i
 
+  -- before the first move
   pub moved-none : (at k : ℕ) → Moved at k 0 at
   moved-none at k = record { few = omega arith; is = sym (further-none at) }
 
@@ -62,9 +67,11 @@ module _ (s : List ℕ) where
   pub moved-inside : {at k i here : ℕ} → Moved at k i here → i < k → further s at k ≤ length s → here + 2 ≤ length s
   moved-inside {at} moved h inside = omega (arith, moved .is, further-rises at h)
 
+  -- one move more
   pub moved-more : {at k i here next : ℕ} → Moved at k i here → i < k → next ≡ listEnd s here → Moved at k (i + 1) next
   moved-more {at} {k} {i} moved h e = record { few = omega arith; is = e ∙ ap (listEnd s) (moved .is) ∙ sym (further-next at i) }
 
+  -- all moves made
   pub moved-all : {at k i here : ℕ} → Moved at k i here → k ≤ i → here ≡ further s at k
   moved-all {at} {k} {i} moved h = moved .is ∙ ap (further s at) (omega arith)
 
@@ -76,6 +83,7 @@ module _ (s : List ℕ) where
 
   -- ---- How many lists the junctions have
 
+  -- v has as many lists as its depth
   pub listsBefore-next : (v : ℕ) → listsBefore s (v + 1) ≡ listsBefore s v + depthOf s v
   unfolding listsBefore
   listsBefore-next v = rw (add-one v)
@@ -91,16 +99,17 @@ module _ (s : List ℕ) where
       pick f (yes e) = rw e (omega arith)
       pick f (no apart) = omega (arith, f (omega arith))
 
-  -- the k-th list of a junction is one of the file's lists
-  pub list-number-of : {v k : ℕ} → v < junctionsOf s → k < depthOf s v → listsBefore s v + k < listsOf s
-  list-number-of {v} {k} h l = omega (arith, listsBefore-next v, listsBefore-more {v = v + 1} (junctionsOf s) (omega arith))
-
-  -- the lists of a junction end where the next junction's start
+  -- the lists of a junction are among the file's
   pub lists-of-junction : {v : ℕ} → v < junctionsOf s → listsBefore s v + depthOf s v ≤ listsOf s
   lists-of-junction {v} h = omega (arith, listsBefore-next v, listsBefore-more {v = v + 1} (junctionsOf s) (omega arith))
 
+  -- so the k-th list of a junction is one of the file's
+  pub list-number-of : {v k : ℕ} → v < junctionsOf s → k < depthOf s v → listsBefore s v + k < listsOf s
+  list-number-of h l = omega (arith, lists-of-junction h)
+
   -- ---- Entries and bytes
 
+  -- list number g brings its count
   pub entries-next : (g : ℕ) → entriesBefore s (g + 1) ≡ entriesBefore s g + countAt s (placeOf s g)
   unfolding entriesBefore
   entries-next g = rw (add-one g)
@@ -159,16 +168,19 @@ way-read {v} {u} depths-filled starts-filled on-map u-on-map h deep shallow star
       between = omega (arith, deep, shallow, depths-filled .depth v on-map, depths-filled .depth u u-on-map);
     }
 
--- it ends at the list of v and u
+-- it ends k lists behind v's first
 way-ends : {s : List ℕ} {v u start k : ℕ} → Way s v u start k → further s start k ≡ placeOf s (listsBefore s v + k)
 way-ends {s} {v} {k} way = rw (way .begins) (further-place s (listsBefore s v) k)
 
+-- it is one of the file's lists
 way-number : {s : List ℕ} {v u start k : ℕ} → Way s v u start k → listsBefore s v + k < listsOf s
 way-number {s} way = list-number-of s (way .on-map) (omega (arith, way .deeper, way .between))
 
+-- it stands in the file
 pub way-inside : {s : List ℕ} {v u start k : ℕ} → Formed s → Way s v u start k → further s start k ≤ length s
 way-inside formed way = rw (way-ends way) (formed-inside formed (omega (arith, way-number way)))
 
+-- and it is the one that was looked for
 pub way-found : {s : List ℕ} {v u start k at : ℕ} → Way s v u start k → at ≡ further s start k → FoundList s v u at
 unfolding listPlace
 way-found {s} {v} {k} way e =

@@ -39,6 +39,7 @@ module _ (s : List ℕ) (at depth total : ℕ) where
     pub counted : at + 2 * k + 8 * sum ≡ here + 8 * total
     pub left : firstFault (numberFurther s at) 0 depth ≡ faultsFrom (numberFurther s at) depth k
 
+  -- before the first list
   pub passed-none : at ≤ length s → Passed 0 at total
   passed-none inside =
       record {
@@ -104,6 +105,7 @@ module _ (s : List ℕ) where
     pub places : length starts ≡ 1024
     pub noted : (w : ℕ) → w < v → getD starts w 0 ≡ startOf s w
 
+  -- before the first junction
   pub all-none : {n : ℕ} {starts : List ℕ} → ParentsFit s → n ≡ junctionsOf s → length starts ≡ 1024 → AllPassed 0 (16 + 2 * n) 0 starts
   unfolding listsNumber listsBefore placeOf entriesBefore
   all-none parents is-count places =
@@ -128,8 +130,11 @@ module _ (s : List ℕ) where
     next-place : (i : ℕ) → further s at i ≡ placeOf s (listsBefore s v + i)
     next-place i = ap (λ p. further s p i) (passed .place) ∙ further-place s (listsBefore s v) i
 
+    behind-them : listsBefore s v + depth ≡ listsBefore s (v + 1)
+    behind-them = ap (λ k. listsBefore s v + k) is-depth ∙ sym (listsBefore-next s v)
+
     last-place : further s at depth ≡ placeOf s (listsBefore s (v + 1))
-    last-place = next-place depth ∙ ap (placeOf s) (ap (λ k. listsBefore s v + k) is-depth ∙ sym (listsBefore-next s v))
+    last-place = next-place depth ∙ ap (placeOf s) behind-them
 
     -- v's lists decide, or those behind them
     split : listsNumber s ≡ decided number (faultsFrom (numberAt s) (listsOf s) (listsBefore s (v + 1)))
@@ -138,9 +143,6 @@ module _ (s : List ℕ) where
         faults-joined (numberAt s) depth (listsBefore s v) (listsOf s - listsBefore s (v + 1)) ∙
         rw (here, behind-them)
       where
-        behind-them : listsBefore s v + depth ≡ listsBefore s (v + 1)
-        behind-them = ap (λ k. listsBefore s v + k) is-depth ∙ sym (listsBefore-next s v)
-
         count : listsOf s - listsBefore s v ≡ depth + (listsOf s - listsBefore s (v + 1))
         count = omega (arith, behind-them, is-depth, lists-of-junction s on-map)
 

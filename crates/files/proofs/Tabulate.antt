@@ -12,11 +12,13 @@ use Rattle.refusals.specs.Lent.{filled}
 use Rattle.files.specs.Stored.{tabulate}
 
 module _ {A : Type 0} where
+  -- it has n entries
   pub length-tabulate : (f : ℕ → A) (n : ℕ) → length (tabulate f n) ≡ n
   unfolding tabulate
   length-tabulate f zero = refl
   length-tabulate f (suc n) = ap suc (length-tabulate (λ i. f (suc i)) n)
 
+  -- and f i is the one at place i
   pub getD-tabulate : (f : ℕ → A) (n : ℕ) {i : ℕ} (d : A) → i < n → getD (tabulate f n) i d ≡ f i
   unfolding tabulate
   getD-tabulate f zero d h = absurd (omega arith)
@@ -75,14 +77,16 @@ filled-more old f n h =
     rw (add-one n, length-tabulate f n, length-tabulate f (suc n), drop-cons old n 0, tabulate-snoc f n)
     (set-at (tabulate f n) (getD old n 0) (drop (suc n) old) (f n) n (length-tabulate f n))
 
--- Of n places of a lent slice that held `old`, the first j hold f 0, f 1, …; it now is `new`
+-- The first j places of a lent slice that held `old` hold f 0, f 1, …; it now is `new`
 pub record Filling (f : ℕ → ℕ) (old : List ℕ) (j : ℕ) (new : List ℕ) : Type 0 where
   pub is : new ≡ filled old (tabulate f j)
   pub one-length : length new ≡ length old
 
+-- none is filled
 pub filling-none : (f : ℕ → ℕ) (old : List ℕ) → Filling f old 0 old
 filling-none f old = record { is = sym (filled-start old f); one-length = refl }
 
+-- one more is filled
 pub filling-more :
     (f : ℕ → ℕ) {old new : List ℕ} {j x : ℕ} → Filling f old j new → j < length old → x ≡ f j → Filling f old (j + 1) (set new j x)
 filling-more f {old} {new} {j} {x} filling h e =
@@ -91,5 +95,6 @@ filling-more f {old} {new} {j} {x} filling h e =
       one-length = length-set new j x ∙ filling .one-length;
     }
 
+-- all n are filled
 pub filling-all : (f : ℕ → ℕ) {old new : List ℕ} {j n : ℕ} → Filling f old j new → j ≡ n → new ≡ filled old (tabulate f n)
 filling-all f {old} filling e = filling .is ∙ ap (λ n. filled old (tabulate f n)) e

@@ -1,7 +1,9 @@
 -- What the functions that pass over, find and load stored lists hand back.
 use mathlib.Core.Path.{_≡_}
+use mathlib.Core.Bool.{Bool, _&&_}
 use mathlib.Core.List.{List}
 use Prim.Native.Nat.{ℕ, zero, suc, _+_, _*_, _≤_, _<_}
+use lib.Dec.{leb, ltb}
 use lib.ListN.{length}
 use Rattle.refusals.specs.Order.{firstFault}
 use Rattle.refusals.specs.Lent.{filled}
@@ -33,6 +35,14 @@ timeCeiling s at (suc j) = timeAt s at j
 abbrev pub energyFloor : List ℕ → ℕ → ℕ → ℕ
 energyFloor s at zero = leastEnergy (versionOf s)
 energyFloor s at (suc j) = suc (energyAt s at j)
+
+-- A time from 1 to the most, and below a ceiling
+abbrev pub timeBelow : ℕ → ℕ → Bool
+timeBelow ceiling t = leb 1 t && leb t mostFigure && ltb t ceiling
+
+-- An energy from a floor to the most
+abbrev pub energyFrom : ℕ → ℕ → Bool
+energyFrom floor e = leb e mostFigure && leb floor e
 
 -- Of `count` entries, `whole` stand whole in so many bytes
 pub record Inside (bytes count whole : ℕ) : Type 0 where

@@ -5,25 +5,24 @@ use network::bytes::u32_at;
 use paths::energy::Energy;
 use paths::seconds::Seconds;
 ghost use mathlib.Core.Path.{_≡_};
-ghost use mathlib.Core.Bool.{_&&_};
 ghost use Prim.Native.Nat.{_+_, _*_, _≤_, _<_};
-ghost use lib.Dec.{leb, ltb};
 ghost use lib.ListN.{length};
 ghost use Rattle.refusals.specs.Order.{firstFault};
 ghost use Rattle.files.specs.LabelFile.{countAt, timeAt, energyAt, listEnd};
-ghost use Rattle.files.specs.LabelForm.{mostBytes, mostCount, mostFigure, timeFits, energyFits, entryNumber, listNumber};
+ghost use Rattle.files.specs.LabelForm.{mostBytes, mostCount, entryNumber, listNumber};
 ghost use Rattle.files.specs.Formed.{ParentsFit, DepthsFilled};
-ghost use Rattle.files.specs.Scanned.{timeCeiling, energyFloor, Inside, ScannedSome, Scanned, Loaded};
+ghost use Rattle.files.specs.Scanned.{timeCeiling, timeBelow, energyFrom, Inside, ScannedSome, Scanned, Loaded};
 
 const MOST_COUNT: usize = 4095;
 
-// "each 1 to 67,042,305"
+// "each 1 to 67,042,305": the least time, the least energy and the most of either
 const LEAST_TIME: u32 = 1;
 
 const LEAST_ENERGY: u32 = 1;
 
 const MOST_FIGURE: u32 = 67042305;
 
+// The time of entry j of the list at a byte.
 fn time_at(labels: &[u8], at: usize, j: usize) -> Seconds
     requires { ⌜ at + 6 + 8 * j ≤ length (now labels) ⌝ }
     ensures { λ r. ⌜ r .0 ≡ timeAt (now (labels .entry)) at j ⌝ }
@@ -31,6 +30,7 @@ fn time_at(labels: &[u8], at: usize, j: usize) -> Seconds
     Seconds(u32_at(labels, at + 2 + 8 * j))
 }
 
+// Its energy.
 fn energy_at(labels: &[u8], at: usize, j: usize) -> Energy
     requires { ⌜ at + 10 + 8 * j ≤ length (now labels) ⌝ }
     ensures { λ r. ⌜ r .0 ≡ energyAt (now (labels .entry)) at j ⌝ }
@@ -38,9 +38,9 @@ fn energy_at(labels: &[u8], at: usize, j: usize) -> Energy
     Energy(u32_at(labels, at + 6 + 8 * j))
 }
 
-// A time in range, and below the time before it.
-fn time_fits(before: Seconds, time: Seconds) -> bool
-    ensures { λ r. ⌜ r ≡ (leb 1 (time .0) && leb (time .0) mostFigure && ltb (time .0) (before .0)) ⌝ }
+// A time in range, and below what stands before it.
+fn time_fits(ceiling: Seconds, time: Seconds) -> bool
+    ensures { λ r. ⌜ r ≡ timeBelow (ceiling .0) (time .0) ⌝ }
 {
     if !Seconds(LEAST_TIME).at_most(time) {
         return false;
@@ -48,16 +48,13 @@ fn time_fits(before: Seconds, time: Seconds) -> bool
     if !time.at_most(Seconds(MOST_FIGURE)) {
         return false;
     }
-    time.below(before)
+    time.below(ceiling)
 }
 
-// An energy in range, and at least the floor that the energy before it leaves.
+// An energy in range, and above what stands before it.
 fn energy_fits(floor: Energy, energy: Energy) -> bool
-    ensures { λ r. ⌜ r ≡ (leb 1 (energy .0) && leb (energy .0) mostFigure && leb (floor .0) (energy .0)) ⌝ }
+    ensures { λ r. ⌜ r ≡ energyFrom (floor .0) (energy .0) ⌝ }
 {
-    if !Energy(LEAST_ENERGY).at_most(energy) {
-        return false;
-    }
     if !energy.at_most(Energy(MOST_FIGURE)) {
         return false;
     }

@@ -1,38 +1,32 @@
+-- The lists of v follow each other from the parent upward, so u's stands as many behind the first as there are ancestors between.
+use Prim.Native.Nat.{_<_}
 use native.Mathlib.Omega.{arith}
 use borrow.Author.Needs.{needs}
 use Rattle.files.proofs.Places.{deeper-in-table, way-read, way-inside, way-found}
 use Rattle.files.proofs.place.find_list.Statement.{statement}
 use Rattle.files.proofs.place.find_list.Tie as tie
-use Rattle.files.proofs.place.find_list.Reads as reads
-use Rattle.files.proofs.place.find_list.Lts as lts
-use Rattle.files.proofs.place.number_of.Reads as number-of-reads
-use Rattle.files.proofs.place.skip.Reads as skip-reads
 
--- src/place.rt:79:19
 number-of-requires : tie.Need-number-of-requires
 number-of-requires c κs = search needs
 
--- src/place.rt:79:42
 number-of-requires-2 : tie.Need-number-of-requires-2
 number-of-requires-2 c κs = search needs
 
--- src/place.rt:79:19
+-- v is the deeper one
+deeper : (c : tie.After-number-of2) → c .number-of2 .result < c .before .number-of .result
+deeper c =
+    let pre = c .before .before .before .pre in
+    omega (arith, deeper-in-table (pre .1 .0) (pre .1 .1 .1 .0 .0) (pre .1 .1 .1 .0 .1) (pre .1 .1 .1 .1))
+
 sub-between : tie.Need-sub-between
-sub-between c =
-    let pre = c .before .before .before .pre in
-    omega (arith, deeper-in-table (pre .1 .0) (pre .1 .1 .1 .0 .0) (pre .1 .1 .1 .0 .1) (pre .1 .1 .1 .1))
+sub-between c = omega (arith, deeper c)
 
--- src/place.rt:79:19
 sub-between-2 : tie.Need-sub-between-2
-sub-between-2 c =
-    let pre = c .before .before .before .pre in
-    omega (arith, deeper-in-table (pre .1 .0) (pre .1 .1 .1 .0 .0) (pre .1 .1 .1 .0 .1) (pre .1 .1 .1 .1))
+sub-between-2 c = omega (arith, deeper c)
 
--- src/place.rt:80:9
 number-of-requires-3 : tie.Need-number-of-requires-3
 number-of-requires-3 c κs = search needs
 
--- src/place.rt:81:5
 skip-requires : tie.Need-skip-requires
 skip-requires c κs =
     let pre = c .before .before .before .before .pre in (
@@ -42,7 +36,6 @@ skip-requires c κs =
       pre .0 .few-bytes,
     )
 
--- src/place.rt:71:1
 returns : tie.Need-returns
 returns c = search (way-found, way-read, needs)
 

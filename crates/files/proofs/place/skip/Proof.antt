@@ -7,9 +7,6 @@ use Rattle.files.specs.Scanned.{further}
 use Rattle.files.proofs.Places.{Moved, moved-none, moved-inside, moved-more, moved-all}
 use Rattle.files.proofs.place.skip.Statement.{statement}
 use Rattle.files.proofs.place.skip.Tie as tie
-use Rattle.files.proofs.place.skip.Reads as reads
-use Rattle.files.proofs.place.skip.Lts as lts
-use Rattle.files.proofs.place.Place.next.Reads as next-reads
 
 abbrev Inv-loop : tie.InvT-loop
 Inv-loop labels k place₀ i₀ place i = Moved labels (place₀ .at) k i (place .at)
@@ -17,27 +14,21 @@ Inv-loop labels k place₀ i₀ place i = Moved labels (place₀ .at) k i (place
 abbrev μ-loop : tie.MeasureT-loop
 μ-loop labels k place₀ i₀ place i = k - i
 
--- src/place.rt:49:5
 loop-holds : tie.Need-loop-holds Inv-loop μ-loop
 loop-holds c = moved-none _ _ _
 
--- src/place.rt:50:9
 next-requires : tie.Need-next-requires Inv-loop μ-loop
 next-requires c κs = search (moved-inside, needs)
 
--- src/place.rt:51:9
 add-i : tie.Need-add-i Inv-loop μ-loop
 add-i c = search needs
 
--- src/place.rt:49:5
 loop-less : tie.Need-loop-less Inv-loop μ-loop
 loop-less c = search needs
 
--- src/place.rt:49:5
 loop-again : tie.Need-loop-again Inv-loop μ-loop
 loop-again c = search (moved-more, needs)
 
--- src/place.rt:42:1
 returns : tie.Need-returns Inv-loop μ-loop
 returns c = search (moved-all, needs)
 

@@ -1,46 +1,33 @@
+-- Of an entry that is cut off, only the time can stand whole; then its rule comes before the cut.
 use borrow.Author.Needs.{needs}
 use Rattle.files.proofs.Entries.{cut-time, cut-bad-time, cut-energy}
 use Rattle.files.proofs.stored.cut_entry_number.Statement.{statement}
 use Rattle.files.proofs.stored.cut_entry_number.Tie as tie
-use Rattle.files.proofs.stored.cut_entry_number.Reads as reads
-use Rattle.files.proofs.stored.cut_entry_number.Lts as lts
-use Rattle.files.proofs.stored.time_at.Reads as time-at-reads
-use Rattle.files.proofs.stored.time_ceiling.Reads as time-ceiling-reads
-use Rattle.files.proofs.stored.time_fits.Reads as time-fits-reads
 
--- src/stored.rt:82:23
 add-if1 : tie.Need-add-if1
 add-if1 c = search needs
 
--- src/stored.rt:82:32
 mul-if1 : tie.Need-mul-if1
 mul-if1 c = search needs
 
--- src/stored.rt:82:23
 add-if1-2 : tie.Need-add-if1-2
 add-if1-2 c = search needs
 
--- src/stored.rt:83:9
 returns : tie.Need-returns
 returns c = search (cut-time, needs)
 
--- src/stored.rt:85:19
 time-ceiling-requires : tie.Need-time-ceiling-requires
 time-ceiling-requires c κs = search needs
 
--- src/stored.rt:85:48
 time-at-requires : tie.Need-time-at-requires
 time-at-requires c κs = search needs
 
--- src/stored.rt:85:9
 time-fits-requires : tie.Need-time-fits-requires
 time-fits-requires c κs = search needs
 
--- src/stored.rt:86:9
 returns-2 : tie.Need-returns-2
 returns-2 c = search (cut-bad-time, needs)
 
--- src/stored.rt:76:1
 returns-3 : tie.Need-returns-3
 returns-3 c = search (cut-energy, needs)
 

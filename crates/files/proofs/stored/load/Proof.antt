@@ -1,15 +1,11 @@
-use borrow.Author.Needs.{needs}
+-- The invariant: the first j places of both slices hold the first j entries.
 use Prim.Native.Nat.{_≤_, _-_}
 use native.Mathlib.Omega.{arith}
+use borrow.Author.Needs.{needs}
 use Rattle.files.specs.LabelFile.{timeAt, energyAt, listEnd}
 use Rattle.files.proofs.Tabulate.{Filling, filling-none, filling-more, filling-all}
 use Rattle.files.proofs.stored.load.Statement.{statement}
 use Rattle.files.proofs.stored.load.Tie as tie
-use Rattle.files.proofs.stored.load.Reads as reads
-use Rattle.files.proofs.stored.load.Lts as lts
-use Rattle.network.proofs.bytes.u16_at.Reads as u16-at-reads
-use Rattle.files.proofs.stored.energy_at.Reads as energy-at-reads
-use Rattle.files.proofs.stored.time_at.Reads as time-at-reads
 
 abbrev Inv-loop : tie.InvT-loop
 Inv-loop labels at times₀ energies₀ count j₀ times energies j =
@@ -18,54 +14,42 @@ Inv-loop labels at times₀ energies₀ count j₀ times energies j =
 abbrev μ-loop : tie.MeasureT-loop
 μ-loop labels at times₀ energies₀ count j₀ times energies j = count - j
 
--- src/stored.rt:213:17
 u16-at-requires : tie.Need-u16-at-requires Inv-loop μ-loop
 unfolding listEnd
 u16-at-requires c κs = search needs
 
--- src/stored.rt:213:17
 cast-count : tie.Need-cast-count Inv-loop μ-loop
 cast-count c = search needs
 
--- src/stored.rt:215:5
 loop-holds : tie.Need-loop-holds Inv-loop μ-loop
 loop-holds c = (omega arith, filling-none _ _, filling-none _ _)
 
--- src/stored.rt:216:13
 time-at-requires : tie.Need-time-at-requires Inv-loop μ-loop
 unfolding listEnd
 time-at-requires c κs = search needs
 
--- src/stored.rt:217:13
 energy-at-requires : tie.Need-energy-at-requires Inv-loop μ-loop
 unfolding listEnd
 energy-at-requires c κs = search needs
 
--- src/stored.rt:218:9
 mul-times : tie.Need-mul-times Inv-loop μ-loop
 mul-times c = search needs
 
--- src/stored.rt:218:9
 slice-write-times : tie.Need-slice-write-times Inv-loop μ-loop
 slice-write-times c = search needs
 
--- src/stored.rt:219:9
 mul-energies : tie.Need-mul-energies Inv-loop μ-loop
 mul-energies c = search needs
 
--- src/stored.rt:219:9
 slice-write-energies : tie.Need-slice-write-energies Inv-loop μ-loop
 slice-write-energies c = search needs
 
--- src/stored.rt:220:9
 add-j : tie.Need-add-j Inv-loop μ-loop
 add-j c = search needs
 
--- src/stored.rt:215:5
 loop-less : tie.Need-loop-less Inv-loop μ-loop
 loop-less c = search needs
 
--- src/stored.rt:215:5
 loop-again : tie.Need-loop-again Inv-loop μ-loop
 loop-again c =
     let inv = c .before .before .before .loop .inv in (
@@ -74,15 +58,12 @@ loop-again c =
       filling-more _ (inv .2) (omega arith) (c .energy-at .ensures),
     )
 
--- src/stored.rt:207:1
 same-length : tie.Need-same-length Inv-loop μ-loop
 same-length c = search needs
 
--- src/stored.rt:207:1
 same-length-2 : tie.Need-same-length-2 Inv-loop μ-loop
 same-length-2 c = search needs
 
--- src/stored.rt:207:1
 returns : tie.Need-returns Inv-loop μ-loop
 returns c =
     let inv = c .before .loop .inv in
