@@ -2,5 +2,6 @@
 pub mod Ready
 pub mod Answers
 pub mod Meeting
+pub mod Marking
 pub mod Reach
 pub mod Written

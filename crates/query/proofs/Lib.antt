@@ -1,0 +1,3 @@
+-- Laws of the queries.
+pub mod Branches
+pub mod Marks
