@@ -1,2 +1,4 @@
 -- Why the sweep decides number 18.
 pub mod Exactness
+pub mod AgreeLists
+pub mod AgreeSteps
