@@ -2,3 +2,6 @@
 pub mod Exactness
 pub mod AgreeLists
 pub mod AgreeSteps
+pub mod Levels
+pub mod Rows
+pub mod Verdicts

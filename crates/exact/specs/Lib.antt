@@ -2,3 +2,5 @@
 pub mod Right
 pub mod Sweep
 pub mod Agreeing
+pub mod Moving
+pub mod Testing
