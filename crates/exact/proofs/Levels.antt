@@ -24,8 +24,8 @@ use Rattle.exact.proofs.Exactness.{below-on-map}
 -- ---- One junction moves on
 
 module _ {s : List ℕ} {d v top place : ℕ} where
-  -- above the level of its parent it waits, at its parent and its first list
-  pub stands-first : depthOf s v ≤ suc d → top ≡ parentAt s v → place ≡ startOf s v → Stands s d v top place
+  -- up to the level of its parent it waits, at its parent and its first list
+  stands-first : depthOf s v ≤ suc d → top ≡ parentAt s v → place ≡ startOf s v → Stands s d v top place
   stands-first shallow top-is place-is =
       record {
         top-is = top-is ∙ ap (parentAt s) (sym (ap (ancestorOf s v) none ∙ ancestor-none s v));
@@ -36,7 +36,7 @@ module _ {s : List ℕ} {d v top place : ℕ} where
       none = omega arith
 
   -- it waits as long as the level is no less than its depth
-  pub stands-waits : 1 ≤ d → depthOf s v ≤ d → Stands s d v top place → Stands s (d - 1) v top place
+  stands-waits : 1 ≤ d → depthOf s v ≤ d → Stands s d v top place → Stands s (d - 1) v top place
   stands-waits some shallow at =
       record {
         top-is = at .top-is ∙ ap (λ k. parentAt s (ancestorOf s v k)) same;
@@ -47,7 +47,7 @@ module _ {s : List ℕ} {d v top place : ℕ} where
       same = omega arith
 
   -- deeper than the level, it moves on by one ancestor and one list
-  pub stands-moves : 1 ≤ d → d < depthOf s v → Stands s d v top place → Stands s (d - 1) v (parentAt s top) (listEnd s place)
+  stands-moves : 1 ≤ d → d < depthOf s v → Stands s d v top place → Stands s (d - 1) v (parentAt s top) (listEnd s place)
   stands-moves some deeper at =
       record {
         top-is = ap (parentAt s) (at .top-is ∙ sym (ancestor-more s v (depthOf s v - suc d)) ∙ ap (ancestorOf s v) more);
@@ -160,7 +160,9 @@ module _ {s : List ℕ} where
       pick w l (no apart) = omega (arith, now .no-deeper w (omega arith))
 
   -- all wait
-  pub waiting-all : {n v deepest : ℕ} {tops places : List ℕ} → n ≡ junctionsOf s → Waiting s v deepest tops places → n ≤ v → Waiting s (junctionsOf s) deepest tops places
+  pub waiting-all :
+      {n v deepest : ℕ} {tops places : List ℕ} → n ≡ junctionsOf s → Waiting s v deepest tops places → n ≤ v →
+      Waiting s (junctionsOf s) deepest tops places
   waiting-all is now over =
       record {
         tops-length = now .tops-length;
@@ -222,7 +224,7 @@ module _ {s depths tops places : List ℕ} {d v : ℕ} (filled : DepthsFilled s 
       pick w l (yes e) = rw e waits
       pick w l (no apart) = now .moved w (omega arith)
 
-  -- of one that moves, the next ancestor is a junction, and the list for it one of the file's; so the next place is inside too
+  -- of one that moves, the ancestor is a junction and the list one of the file's; so the next place is inside too
   module _ (formed : Formed s) (deeper : d < getD depths v 0) where
     deep : d < depthOf s v
     deep = omega (arith, filled .depth v below)

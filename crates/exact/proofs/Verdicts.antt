@@ -26,63 +26,63 @@ use Rattle.exact.proofs.Exactness.{below-on-map, agreeing-is-right}
 use Rattle.exact.proofs.Levels.{below-has-top, top-is-above, places-for}
 
 -- a statement that holds is decided by true, one that does not by false
-pub decided-yes : {P : Type 0} → P → Decides P true
+decided-yes : {P : Type 0} → P → Decides P true
 decided-yes p = record { holds = λ e. p; fails = λ e q. false≢true (sym e) }
 
-pub decided-no : {P : Type 0} → (P → ⊥) → Decides P false
+decided-no : {P : Type 0} → (P → ⊥) → Decides P false
 decided-no n = record { holds = λ e. absurd (false≢true e); fails = λ e p. n p }
 
 -- what decides a statement decides its like
-pub decided-same : {P Q : Type 0} {r : Bool} → (P → Q) → (Q → P) → Decides P r → Decides Q r
+decided-same : {P Q : Type 0} {r : Bool} → (P → Q) → (Q → P) → Decides P r → Decides Q r
 decided-same to from decides = record { holds = λ e. to (decides .holds e); fails = λ e q. decides .fails e (from q) }
 
 -- ---- Numbers from 0 up
 
 -- P has held of every number below i
-pub record Rising (P : ℕ → Type 0) (n i : ℕ) : Type 0 where
+pub record Ascending (P : ℕ → Type 0) (n i : ℕ) : Type 0 where
   pub few : i ≤ n
   pub so-far : (j : ℕ) → j < i → P j
 
 module _ {P : ℕ → Type 0} {n : ℕ} where
   -- before the first, after one that holds, at one that fails, after the last
-  pub rising-start : Rising P n 0
-  rising-start = record { few = omega arith; so-far = λ j below. absurd (omega arith) }
+  pub ascending-start : Ascending P n 0
+  ascending-start = record { few = omega arith; so-far = λ j below. absurd (omega arith) }
 
-  module _ {i : ℕ} {r : Bool} (now : Rising P n i) (more : i < n) (decides : Decides (P i) r) where
-    pub rising-more : not r ≡ false → Rising P n (i + 1)
-    rising-more passed = record { few = omega arith; so-far = λ j below. pick j below (ℕ-discrete j i) }
+  module _ {i : ℕ} {r : Bool} (now : Ascending P n i) (more : i < n) (decides : Decides (P i) r) where
+    pub ascending-more : not r ≡ false → Ascending P n (i + 1)
+    ascending-more passed = record { few = omega arith; so-far = λ j below. pick j below (ℕ-discrete j i) }
       where
         pick : (j : ℕ) → j < i + 1 → Dec (j ≡ i) → P j
         pick j below (yes e) = rw e (decides .holds (not-false r passed))
         pick j below (no apart) = now .so-far j (omega arith)
 
-    pub rising-fails : not r ≡ true → Decides (Every P n) false
-    rising-fails failed = decided-no (λ all. decides .fails (not-true r failed) (all .holds i more))
+    pub ascending-fails : not r ≡ true → Decides (Every P n) false
+    ascending-fails failed = decided-no (λ all. decides .fails (not-true r failed) (all .holds i more))
 
-  pub rising-end : {i : ℕ} → Rising P n i → n ≤ i → Decides (Every P n) true
-  rising-end now over = decided-yes (record { holds = λ j below. now .so-far j (omega arith) })
+  pub ascending-end : {i : ℕ} → Ascending P n i → n ≤ i → Decides (Every P n) true
+  ascending-end now over = decided-yes (record { holds = λ j below. now .so-far j (omega arith) })
 
 -- ---- Numbers down to 0
 
 -- P has held of every number from i on
-pub record Falling (P : ℕ → Type 0) (i : ℕ) : Type 0 where
+pub record Descending (P : ℕ → Type 0) (i : ℕ) : Type 0 where
   pub so-far : (j : ℕ) → i ≤ j → P j
 
 module _ {P : ℕ → Type 0} where
   -- after one that holds, at one that fails, after the last
-  module _ {i : ℕ} {r : Bool} (now : Falling P i) (decides : Decides (P (i - 1)) r) where
-    pub falling-more : not r ≡ false → Falling P (i - 1)
-    falling-more passed = record { so-far = λ j from. pick j from (ℕ-discrete j (i - 1)) }
+  module _ {i : ℕ} {r : Bool} (now : Descending P i) (decides : Decides (P (i - 1)) r) where
+    pub descending-more : not r ≡ false → Descending P (i - 1)
+    descending-more passed = record { so-far = λ j from. pick j from (ℕ-discrete j (i - 1)) }
       where
         pick : (j : ℕ) → i - 1 ≤ j → Dec (j ≡ i - 1) → P j
         pick j from (yes e) = rw e (decides .holds (not-false r passed))
         pick j from (no apart) = now .so-far j (omega arith)
 
-    pub falling-fails : not r ≡ true → Decides ((j : ℕ) → P j) false
-    falling-fails failed = decided-no (λ all. decides .fails (not-true r failed) (all (i - 1)))
+    pub descending-fails : not r ≡ true → Decides ((j : ℕ) → P j) false
+    descending-fails failed = decided-no (λ all. decides .fails (not-true r failed) (all (i - 1)))
 
-  pub falling-end : {i : ℕ} → Falling P i → i ≤ 0 → Decides ((j : ℕ) → P j) true
-  falling-end now over = decided-yes (λ j. now .so-far j (omega arith))
+  pub descending-end : {i : ℕ} → Descending P i → i ≤ 0 → Decides ((j : ℕ) → P j) true
+  descending-end now over = decided-yes (λ j. now .so-far j (omega arith))
 
 -- ---- One list
 
@@ -95,10 +95,11 @@ module _ {net s depths heads nexts tops places row : List ℕ} {u v : ℕ} (read
       (record { agrees = λ above. absurd (apart (below-has-top (ready .beside .labels .parents) (ready .level) above)) })
 
   module _ (e : getD tops v 0 ≡ u) where
+    -- one that has come to u is below it
     is-above : Above (parentsOf s) u v
     is-above = top-is-above (ready .beside .labels .parents) (ready .level) v (ready .on-map) below e
 
-    -- one that has may be tested, and the test decides
+    -- so its list may be tested, and the test decides
     pub may-test : AgreeInput net s depths heads nexts places row v u
     may-test =
         record {
@@ -118,6 +119,7 @@ module _ {net s depths heads nexts tops places row : List ℕ} {u v : ℕ} (read
 
 module _ {net s depths starts heads nexts tops places : List ℕ} {d u : ℕ} (input : LevelInput net s depths starts heads nexts d tops places)
     (below : u < junctionsOf s) where
+  -- the table has u's depth
   depth-is : getD depths u 0 ≡ depthOf s u
   depth-is = input .tables .depths-filled .depth u below
 
@@ -143,22 +145,28 @@ module _ {net s depths starts heads nexts tops places : List ℕ} {d u : ℕ} (i
 
 -- ---- All levels
 
+-- a level agrees if each of its lists does
+level-agrees :
+    {net s : List ℕ} {d : ℕ} →
+    ((u v : ℕ) → depthOf s u ≡ d → v < junctionsOf s → Above (parentsOf s) u v → ListAgrees (networkOf net) (parentsOf s) (stored s) v u) →
+    LevelAgrees net s d
+level-agrees each =
+    record {
+      holds = λ u on-map. record { agrees = λ e. record { holds = λ v below. record { agrees = λ above. each u v e below above } } };
+    }
+
 module _ {net s : List ℕ} (beside : Beside net s) where
-  -- no junction is below one that none is deeper than
+  -- the level of the deepest junctions has no list, nor have those below it
   pub deepest-agrees :
-      {deepest : ℕ} {tops places : List ℕ} → Waiting s (junctionsOf s) deepest tops places → Falling (LevelAgrees net s) deepest
-  deepest-agrees {deepest} waiting =
+      {deepest : ℕ} {tops places : List ℕ} → Waiting s (junctionsOf s) deepest tops places → Descending (LevelAgrees net s) deepest
+  deepest-agrees waiting =
       record {
         so-far =
             λ d from.
-            record {
-              holds = λ u on-map. record { agrees = λ e. record { holds = λ v below. record { agrees = λ above. absurd (none d from u v e below above) } } };
-            };
+            level-agrees
+            (λ u v e below above.
+            absurd (omega (arith, above-shallower s (beside .labels .parents .ends) above, waiting .no-deeper v below)));
       }
-    where
-      none : (d : ℕ) → deepest ≤ d → (u v : ℕ) → depthOf s u ≡ d → v < junctionsOf s → Above (parentsOf s) u v → ⊥
-      none d from u v e below above =
-          omega (arith, above-shallower s (beside .labels .parents .ends) above, waiting .no-deeper v below)
 
   -- all lists agree exactly if those of each level do
   levels-all : ((d : ℕ) → LevelAgrees net s d) → AllAgree (networkOf net) (parentsOf s) (stored s)
@@ -169,8 +177,7 @@ module _ {net s : List ℕ} (beside : Beside net s) where
           every (depthOf s u) .holds u (above-at (beside .labels .parents) above .on-map) .agrees refl .holds v (below-on-map s above) .agrees above
 
   all-levels : AllAgree (networkOf net) (parentsOf s) (stored s) → (d : ℕ) → LevelAgrees net s d
-  all-levels all d =
-      record { holds = λ u on-map. record { agrees = λ e. record { holds = λ v below. record { agrees = λ above. all .agrees above } } } }
+  all-levels all d = level-agrees (λ u v e below above. all .agrees above)
 
   -- so the levels decide whether every list is right
   levels-right : {r : Bool} → Decides ((d : ℕ) → LevelAgrees net s d) r → Decides (EveryListRight net s) r
@@ -182,9 +189,9 @@ module _ {net s : List ℕ} (beside : Beside net s) where
 
   -- at one level that fails, and after the last
   pub level-fails :
-      {d : ℕ} {r : Bool} → Falling (LevelAgrees net s) d → Decides (LevelAgrees net s (d - 1)) r → not r ≡ true →
+      {d : ℕ} {r : Bool} → Descending (LevelAgrees net s) d → Decides (LevelAgrees net s (d - 1)) r → not r ≡ true →
       Decides (EveryListRight net s) false
-  level-fails now decides failed = levels-right (falling-fails now decides failed)
+  level-fails now decides failed = levels-right (descending-fails now decides failed)
 
-  pub levels-end : {d : ℕ} → Falling (LevelAgrees net s) d → d ≤ 0 → Decides (EveryListRight net s) true
-  levels-end now over = levels-right (falling-end now over)
+  pub levels-end : {d : ℕ} → Descending (LevelAgrees net s) d → d ≤ 0 → Decides (EveryListRight net s) true
+  levels-end now over = levels-right (descending-end now over)

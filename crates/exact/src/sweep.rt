@@ -17,6 +17,7 @@ ghost use Rattle.exact.specs.Agreeing.{Room};
 ghost use Rattle.exact.specs.Moving.{Advancing, Waiting};
 ghost use Rattle.exact.specs.Testing.{Every, AgreesBelow, AgreesAt, LevelAgrees, Ready, LevelInput};
 
+// Of two depths, the larger.
 fn larger(a: u32, b: u32) -> u32
     ensures { λ r. ⌜ (a ≤ r) × (b ≤ r) ⌝ }
 {

@@ -5,13 +5,13 @@ use borrow.Author.Needs.{needs}
 use Rattle.network.specs.NetworkFile.{junctionsOf}
 use Rattle.exact.specs.Testing.{AgreesAt}
 use Rattle.exact.specs.Agreeing.{Room}
-use Rattle.exact.proofs.Verdicts.{Rising, rising-start, rising-more, rising-fails, rising-end}
+use Rattle.exact.proofs.Verdicts.{Ascending, ascending-start, ascending-more, ascending-fails, ascending-end}
 use Rattle.exact.proofs.sweep.level.Statement.{statement}
 use Rattle.exact.proofs.sweep.level.Tie as tie
 
 abbrev Inv-loop : tie.InvT-loop
 Inv-loop net labels depths starts heads nexts d tops places own-times₀ own-energies₀ rest-times₀ rest-energies₀ marks₀ n u₀ own-times own-energies rest-times rest-energies marks u =
-    Rising (AgreesAt net labels d) (junctionsOf labels) u × Room own-times own-energies rest-times rest-energies marks
+    Ascending (AgreesAt net labels d) (junctionsOf labels) u × Room own-times own-energies rest-times rest-energies marks
 
 abbrev μ-loop : tie.MeasureT-loop
 μ-loop net labels depths starts heads nexts d tops places own-times₀ own-energies₀ rest-times₀ rest-energies₀ marks₀ n u₀ own-times own-energies rest-times rest-energies marks u = n - u
@@ -23,7 +23,7 @@ cast-n : tie.Need-cast-n Inv-loop μ-loop
 cast-n c = search needs
 
 loop-holds : tie.Need-loop-holds Inv-loop μ-loop
-loop-holds c = search (rising-start, needs)
+loop-holds c = search (ascending-start, needs)
 
 agrees-at-requires : tie.Need-agrees-at-requires Inv-loop μ-loop
 agrees-at-requires c κs =
@@ -34,7 +34,7 @@ agrees-at-requires c κs =
 returns : tie.Need-returns Inv-loop μ-loop
 returns c =
     let turn = c .before .before .before .before .before .before .before .before in
-    (rising-fails (turn .loop .inv .0) (omega arith) (c .before .agrees-at .ensures .0) (c .if1 .taken), c .before .agrees-at .ensures .1)
+    (ascending-fails (turn .loop .inv .0) (omega arith) (c .before .agrees-at .ensures .0) (c .if1 .taken), c .before .agrees-at .ensures .1)
 
 add-u : tie.Need-add-u Inv-loop μ-loop
 add-u c = search needs
@@ -45,10 +45,10 @@ loop-less c = search needs
 loop-again : tie.Need-loop-again Inv-loop μ-loop
 loop-again c =
     let turn = c .before .before .before .before .before .before .before .before in
-    (rising-more (turn .loop .inv .0) (omega arith) (c .before .agrees-at .ensures .0) (c .if1 .left), c .before .agrees-at .ensures .1)
+    (ascending-more (turn .loop .inv .0) (omega arith) (c .before .agrees-at .ensures .0) (c .if1 .left), c .before .agrees-at .ensures .1)
 
 returns-2 : tie.Need-returns-2 Inv-loop μ-loop
-returns-2 c = (rising-end (c .before .loop .inv .0) (omega arith), c .before .loop .inv .1)
+returns-2 c = (ascending-end (c .before .loop .inv .0) (omega arith), c .before .loop .inv .1)
 
 pub level-spec : {M : Type 1} → statement M
 level-spec =

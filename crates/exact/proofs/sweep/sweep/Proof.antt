@@ -5,13 +5,13 @@ use Rattle.exact.specs.Testing.{LevelAgrees}
 use Rattle.exact.specs.Agreeing.{Room}
 use Rattle.exact.specs.Sweep.{AtLevel}
 use Rattle.exact.proofs.Levels.{waiting-level}
-use Rattle.exact.proofs.Verdicts.{Falling, falling-more, deepest-agrees, level-fails, levels-end}
+use Rattle.exact.proofs.Verdicts.{Descending, descending-more, deepest-agrees, level-fails, levels-end}
 use Rattle.exact.proofs.sweep.sweep.Statement.{statement}
 use Rattle.exact.proofs.sweep.sweep.Tie as tie
 
 abbrev Inv-loop : tie.InvT-loop
 Inv-loop net labels depths starts heads nexts deepest tops₀ places₀ own-times₀ own-energies₀ rest-times₀ rest-energies₀ marks₀ d₀ tops places own-times own-energies rest-times rest-energies marks d =
-    Falling (LevelAgrees net labels) d × AtLevel labels d tops places × Room own-times own-energies rest-times rest-energies marks
+    Descending (LevelAgrees net labels) d × AtLevel labels d tops places × Room own-times own-energies rest-times rest-energies marks
 
 abbrev μ-loop : tie.MeasureT-loop
 μ-loop net labels depths starts heads nexts deepest tops₀ places₀ own-times₀ own-energies₀ rest-times₀ rest-energies₀ marks₀ d₀ tops places own-times own-energies rest-times rest-energies marks d = d
@@ -50,7 +50,7 @@ loop-again : tie.Need-loop-again Inv-loop μ-loop
 loop-again c =
     let moved = c .before .before .before .before .before .before .before .before .before in
     let turn = moved .before .before .before .before in
-    (falling-more (turn .loop .inv .0) (c .before .level .ensures .0) (c .if1 .left), moved .advance .ensures, c .before .level .ensures .1)
+    (descending-more (turn .loop .inv .0) (c .before .level .ensures .0) (c .if1 .left), moved .advance .ensures, c .before .level .ensures .1)
 
 returns-2 : tie.Need-returns-2 Inv-loop μ-loop
 returns-2 c = levels-end (c .before .before .before .before .pre .0) (c .before .loop .inv .0) (c .loop-test .left)
