@@ -1,1 +1,3 @@
 // Is every stored list the trade-off list of its two junctions? Labels are their own certificate.
+pub mod agree;
+pub mod sweep;

@@ -62,7 +62,7 @@ fn wide(x: u32) -> usize
 }
 
 // The number that a table of all junctions has for v.
-fn number_of(table: &[u32; 1024], v: usize) -> usize
+pub fn number_of(table: &[u32; 1024], v: usize) -> usize
     requires { ⌜ v < 1024 ⌝ }
     ensures { λ r. ⌜ r ≡ getD (now (table .entry)) v 0 ⌝ }
 {
