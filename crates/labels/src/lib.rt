@@ -1,1 +1,79 @@
-// The public calls.
+// The calls of Bushelvane. Each takes arbitrary bytes and numbers, always ends, and states its number, its values and every lent
+// place for all inputs; a refusal carries zeros and changes nothing lent. What the statements mean is said in specs/, one file a
+// call, in the words of the scope.
+use lists::JoinAnswer;
+use lists::SumAnswer;
+ghost use Prim.Native.Nat.{_+_, _≤_};
+ghost use mathlib.Core.Path.{_≡_};
+ghost use lib.ListN.{length};
+ghost use Rattle.lists.specs.Answers.{Join, LimitedJoin, joinNumberOf, joinCountOf, sumNumberOf, sumTimeOf, sumEnergyOf};
+ghost use Rattle.files.specs.Stored.{listPlace};
+ghost use Rattle.files.specs.Shown.{Shown};
+ghost use Rattle.labels.specs.Check.{Checked};
+
+pub mod accept;
+
+// Check: 0 if the network and the labels are accepted, else the number of the first test that fails (1 to 6, 11 to 18).
+pub fn check(net: &[u8], labels: &[u8]) -> u32
+    ensures { λ r. ⌜ Checked (now (net .entry)) (now (labels .entry)) r ⌝ }
+{
+    let mut depths: [u32; 1024] = [0; 1024];
+    let mut starts: [u32; 1024] = [0; 1024];
+    let mut heads: [u32; 1024] = [0; 1024];
+    let mut nexts: [u32; 8192] = [0; 8192];
+    accept::accept(
+        net,
+        labels,
+        &mut depths,
+        &mut starts,
+        &mut heads,
+        &mut nexts,
+    )
+}
+
+// Join: the unbeaten sums of two lists, each once, in order, into the first places of two lent slices; how many, or 41, 42, 24.
+pub fn join(
+    times: &[u32],
+    energies: &[u32],
+    more_times: &[u32],
+    more_energies: &[u32],
+    out_times: &mut [u32],
+    out_energies: &mut [u32],
+) -> JoinAnswer
+    ensures { λ r.
+        ⌜ Join (now (times .entry)) (now (energies .entry)) (now («more_times» .entry)) (now («more_energies» .entry))
+        (now («out_times» .entry)) (now («out_energies» .entry)) (joinNumberOf r) (joinCountOf r)
+        (now («out_times» .exit)) (now («out_energies» .exit)) ⌝ }
+{
+    lists::join::join(
+        times,
+        energies,
+        more_times,
+        more_energies,
+        out_times,
+        out_energies,
+    )
+}
+
+// Limited join: the best sum of two lists within a limit, or 41, 42, 23.
+pub fn limited_join(
+    times: &[u32],
+    energies: &[u32],
+    more_times: &[u32],
+    more_energies: &[u32],
+    limit: u32,
+) -> SumAnswer
+    ensures { λ r.
+        ⌜ LimitedJoin (now (times .entry)) (now (energies .entry)) (now («more_times» .entry)) (now («more_energies» .entry))
+        limit (sumNumberOf r) (sumTimeOf r) (sumEnergyOf r) ⌝ }
+{
+    lists::sums::limited_join(times, energies, more_times, more_energies, limit)
+}
+
+// Show: the very bytes of the list of v and its proper ancestor u, from its count through its last entry, or the empty part.
+pub fn show(labels: &[u8], v: u32, u: u32) -> &[u8]
+    ensures { λ r. ⌜ Shown (now (labels .entry)) v u (now r) ⌝ }
+    ensures { λ r. ⌜ (1 ≤ length (now r) → r .ptr ≡ (labels .entry .ptr .0, listPlace (now (labels .entry)) v u + labels .entry .ptr .1)) ⌝ }
+{
+    files::show::show(labels, v, u)
+}

@@ -1,0 +1,3 @@
+-- Why the calls give what they state, and that no second outcome meets a statement.
+pub mod Accepts
+pub mod CheckUnique

@@ -1,0 +1,42 @@
+-- `labels::accept::accept` is right: each way through it is one law of `Accepts`.
+use borrow.Author.Needs.{needs}
+use Rattle.labels.proofs.Accepts.{form-passes, network-refuses, network-passes, labels-refuse, tables-filled, all-right, some-wrong}
+use Rattle.labels.proofs.accept.accept.Statement.{statement}
+use Rattle.labels.proofs.accept.accept.Tie as tie
+
+net-number-requires : tie.Need-net-number-requires
+net-number-requires c κs = search needs
+
+returns : tie.Need-returns
+returns c = search (network-refuses)
+
+form-beside-requires : tie.Need-form-beside-requires
+form-beside-requires c κs = search (network-passes)
+
+returns-2 : tie.Need-returns-2
+returns-2 c = search (labels-refuse)
+
+group-roads-requires : tie.Need-group-roads-requires
+group-roads-requires c κs = search (network-passes)
+
+exact-requires : tie.Need-exact-requires
+exact-requires c κs = (search (form-passes), search (tables-filled))
+
+returns-3 : tie.Need-returns-3
+returns-3 c = search (all-right)
+
+returns-4 : tie.Need-returns-4
+returns-4 c = search (some-wrong)
+
+pub accept-spec : {M : Type 1} → statement M
+accept-spec =
+    tie.close
+    (tie.spec
+    net-number-requires
+    returns
+    form-beside-requires
+    returns-2
+    group-roads-requires
+    exact-requires
+    returns-3
+    returns-4)

@@ -1,0 +1,34 @@
+// The check with its tables left filled: what every call but Show and the joins begins with.
+use exact::sweep::exact;
+use files::form::form_beside;
+use network::network::net_number;
+use network::roads::group_roads;
+ghost use mathlib.Core.Path.{_≡_};
+ghost use lib.ListN.{length};
+ghost use Rattle.labels.specs.Working.{Accepting};
+
+pub fn accept(
+    net: &[u8],
+    labels: &[u8],
+    depths: &mut [u32; 1024],
+    starts: &mut [u32; 1024],
+    heads: &mut [u32; 1024],
+    nexts: &mut [u32; 8192],
+) -> u32
+    requires { ⌜ (length (now depths) ≡ 1024) × (length (now starts) ≡ 1024) × (length (now heads) ≡ 1024) × (length (now nexts) ≡ 8192) ⌝ }
+    ensures { λ r. ⌜ Accepting (now (net .entry)) (now (labels .entry)) r (now (depths .exit)) (now (starts .exit)) (now (heads .exit)) (now (nexts .exit)) ⌝ }
+{
+    let number = net_number(net);
+    if number != 0 {
+        return number;
+    }
+    let form = form_beside(net, labels, depths, starts);
+    if form != 0 {
+        return form;
+    }
+    group_roads(net, heads, nexts);
+    if exact(net, labels, depths, starts, heads, nexts) {
+        return 0;
+    }
+    18
+}
