@@ -4,7 +4,7 @@ use mathlib.Core.Path.{_≡_, refl, sym, ap, _∙_}
 use mathlib.Core.Logic.{inl, inr, ⊎-elim}
 use mathlib.Core.Bool.{Bool, true, false, true≢false}
 use mathlib.Core.List.{List, List·Memᴰ}
-use Prim.Native.Nat.{ℕ, suc, _+_, _*_, _≤_, _<_}
+use Prim.Native.Nat.{ℕ, suc, _+_, _≤_, _<_}
 use native.Mathlib.Decide.{ℕ-discrete}
 use native.Mathlib.Omega.{arith}
 use lib.ListN.{length, getD, take, set, length-set}
@@ -87,10 +87,6 @@ marked-end marked h = record { holds = λ e. record { each = λ i below. marked 
 -- ---- One road
 
 module _ {net s depths places row : List ℕ} {v u k : ℕ} (input : RoadInput net s depths places row v u k) where
-  -- the road's bytes stand in the file
-  pub road-inside : 24 + 8 * k ≤ length net
-  road-inside = omega (arith, input .beside .network .whole, input .stands)
-
   -- the road as an arc
   the-arc : RoadArc net v (otherEnd net v k) k (pair (roadTime net k) (roadEnergy net k))
   the-arc = touches-arc (input .beside .network) v k (input .stands) (input .here)
@@ -123,6 +119,7 @@ module _ {net s depths places row : List ℕ} {v u k : ℕ} (input : RoadInput n
     weighs : pair time units ≡ pair (roadTime net k) (roadEnergy net k)
     weighs = λ i. pair (time-is i) (units-are i)
 
+    -- the arc that the code follows
     arc-here : RoadArc net v w k (pair time units)
     arc-here = rw (leads-to, time-is, units-are) the-arc
 
@@ -130,6 +127,7 @@ module _ {net s depths places row : List ℕ} {v u k : ℕ} (input : RoadInput n
     entry-left : {q : Weight} → List·Memᴰ q (entries (take rest us) (take rest fs)) → Left net s w u q
     entry-left m = rest-left (input .beside) at (rw (loaded .are) at m)
 
+    -- and what is left is an entry
     left-entry : {q : Weight} → Left net s w u q → List·Memᴰ q (entries (take rest us) (take rest fs))
     left-entry left = rw (loaded .are) (left-rest (input .beside) at left)
 
@@ -182,6 +180,7 @@ module _ {net s depths places row : List ℕ} {v u k : ℕ} (input : RoadInput n
           only = λ agreed i. ⊎-elim inl (λ new. inr (met-from (new .1))) (covering .only agreed i);
         }
       where
+        -- the own list has as many entries as were loaded
         in-own : (i : ℕ) → i < own → i < length (take own ts)
         in-own i h = omega (arith, length-take-le own ts (omega (arith, holds .leads .few, holds .leads .room .times-places)))
 
@@ -281,14 +280,17 @@ module _ {net s : List ℕ} (beside : Beside net s) {v u : ℕ} where
           fails = λ e agrees. decided .fails e (record { each = λ i h. one agrees i h });
         }
       where
+        -- the own list has as many entries as were loaded
         own-length : length (take own ts) ≡ own
         own-length = length-take-le own ts (omega (arith, holds .leads .few, holds .leads .room .times-places))
 
+        -- a marked entry is met
         met : AllMarked marks own → {p : Weight} → List·Memᴰ p (stored s v u) → Met net s v u p
         met all m =
             let at = member-index (take own ts) (take own es) (rw (← holds .are) at m) in
             rw (← at .is) (so .only (at .place) (omega (arith, own-length, at .in-times)) (all .each (at .place) (omega (arith, own-length, at .in-times))))
 
+        -- an entry that is met is marked
         one : ListAgrees (networkOf net) (parentsOf s) (stored s) v u → (i : ℕ) → i < own → getD marks i 0 ≡ 1
         one agrees i h =
             let m = index-member (take own ts) (take own es) i (omega (arith, own-length)) (omega (arith, own-length, holds .leads .is-list .one-length)) in
@@ -324,6 +326,7 @@ module _ {net s depths heads nexts places row : List ℕ} {v u : ℕ} (input : A
   first-road head-is = head-is ∙ input .grouped .head v (omega (arith, input .on-map, input .beside .one-map))
 
   module _ {k : ℕ} {ts es marks : List ℕ} {own : ℕ} (so : Agreed net s v u k ts es own marks) (stands : k < roadsOf net) where
+    -- what is asked at each road
     pub road-input : RoadInput net s depths places row v u k
     road-input =
         record {

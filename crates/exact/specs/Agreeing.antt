@@ -37,13 +37,13 @@ pub record ListRoom (times energies : List ℕ) : Type 0 where
   pub times-places : length times ≡ 4096
   pub energies-places : length energies ≡ 4096
 
--- All lent slices have: for the own list, for the list of a neighbour, and for the marks
+-- All lent slices have room: for the list that is tested, for the list of a neighbour, and for the marks
 pub record Room (times energies moreTimes moreEnergies marks : List ℕ) : Type 0 where
   pub own : ListRoom times energies
   pub rest : ListRoom moreTimes moreEnergies
   pub marks-places : length marks ≡ 4096
 
--- The same at road k of v
+-- What is known where road k of v is followed
 pub record RoadInput (net s depths places row : List ℕ) (v u k : ℕ) : Type 0 where
   pub beside : Beside net s
   pub depths-filled : DepthsFilled s depths
@@ -103,7 +103,7 @@ Left net s w u q = Rest (networkOf net) (parentsOf s) (stored s) w u q
 abbrev pub Met : List ℕ → List ℕ → ℕ → ℕ → Weight → Type 0
 Met net s v u p = MetFrom (networkOf net) (parentsOf s) (stored s) v u p
 
--- The same over road k
+-- p is so over road k
 pub record MetOver (net s : List ℕ) (v u k : ℕ) (p : Weight) : Type 0 where
   pub met : Met net s v u p
   pub over : met .number ≡ k

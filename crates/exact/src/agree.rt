@@ -82,8 +82,8 @@ fn sums_covered(
     own_times: &[u32],
     own_energies: &[u32],
     own_count: usize,
-    time: Seconds,
-    units: Energy,
+    arc_time: Seconds,
+    arc_energy: Energy,
     rest_times: &[u32],
     rest_energies: &[u32],
     rest_count: usize,
@@ -91,7 +91,7 @@ fn sums_covered(
 ) -> bool
     requires { ⌜ Leads (now «own_times») (now «own_energies») «own_count» ⌝ }
     requires { ⌜ Leads (now «rest_times») (now «rest_energies») «rest_count» ⌝ }
-    requires { ⌜ (time .0 ≤ 65535) × (units .0 ≤ 65535) ⌝ }
+    requires { ⌜ («arc_time» .0 ≤ 65535) × («arc_energy» .0 ≤ 65535) ⌝ }
     requires { ⌜ length (now marks) ≡ 4096 ⌝ }
     ensures { λ r.
         ⌜ Covering
@@ -99,7 +99,7 @@ fn sums_covered(
         (take «own_count» (now («own_energies» .entry)))
         (take «rest_count» (now («rest_times» .entry)))
         (take «rest_count» (now («rest_energies» .entry)))
-        (pair (time .0) (units .0))
+        (pair («arc_time» .0) («arc_energy» .0))
         (now (marks .entry))
         (now (marks .exit))
         r ⌝ }
@@ -107,8 +107,8 @@ fn sums_covered(
     cover(
         &own_times[0..own_count],
         &own_energies[0..own_count],
-        time,
-        units,
+        arc_time,
+        arc_energy,
         &rest_times[0..rest_count],
         &rest_energies[0..rest_count],
         marks,
@@ -170,6 +170,7 @@ fn clear_marks(marks: &mut [u8; 4096], count: usize)
     }
 }
 
+// Whether every entry is marked.
 fn all_marked(marks: &[u8; 4096], count: usize) -> bool
     requires { ⌜ count ≤ 4096 ⌝ }
     ensures { λ r. ⌜ Decides (AllMarked (now (marks .entry)) count) r ⌝ }
@@ -230,7 +231,7 @@ pub fn list_agrees(
             rest_energies,
             marks,
         ) {
-            return false;
+            return false; // the list leaves a sum uncovered
         }
         k = next_road(net, nexts, v, k);
     }

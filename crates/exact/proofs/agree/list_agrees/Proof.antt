@@ -99,7 +99,7 @@ loop-again c =
     )
 
 all-marked-requires : tie.Need-all-marked-requires Inv-loop μ-loop
-all-marked-requires c κs = c .before .before .before .before .before .before .before .load-list .ensures .leads .few
+all-marked-requires c κs = let few = c .before .before .before .before .before .before .before .load-list .ensures .leads .few in omega arith
 
 returns-2 : tie.Need-returns-2 Inv-loop μ-loop
 returns-2 c =

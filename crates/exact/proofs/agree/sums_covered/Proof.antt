@@ -45,7 +45,9 @@ cover-requires : tie.Need-cover-requires
 cover-requires c κs =
     let pre = c .before .before .before .before .before .before .before .before .before .before .pre in
     let short = part-length (pre .0) in
-    (part-list (pre .0), (part-list (pre .1 .0), (pre .1 .1 .0 .0, (pre .1 .1 .0 .1, omega (arith, short, pre .1 .1 .1, pre .0 .few)))))
+    let small = pre .1 .1 in
+    let few = pre .0 .few in
+    (part-list (pre .0), (part-list (pre .1 .0), (omega arith, (omega arith, omega arith))))
 
 same-length : tie.Need-same-length
 same-length c = search needs
