@@ -1,0 +1,11 @@
+// The calls for C and Rust: the functions of `labels` behind the names of include/bushelvane.h.
+use lists::{JoinAnswer, SumAnswer};
+ghost use mathlib.Core.Path.{_≡_};
+ghost use Rattle.labels.specs.Check.{Checked};
+
+#[no_mangle]
+pub extern "C" fn bushelvane_check(net: &[u8], labels: &[u8]) -> u32
+    ensures { λ r. ⌜ Checked (now (net .entry)) (now (labels .entry)) r ⌝ }
+{
+    labels::check(net, labels)
+}
