@@ -1,19 +1,19 @@
--- `file_cases::main` ends: it runs the cases one after another.
+-- `check_cases::main` ends: it runs the cases one after another.
 use borrow.Author.Needs.{needs}
 use Prim.Native.Nat.{_≤_, _-_}
-use Rattle.file_cases.proofs.main.Statement.{statement}
-use Rattle.file_cases.proofs.main.Tie as tie
-use Rattle.file_cases.proofs.main.Reads as reads
-use Rattle.file_cases.proofs.main.Lts as lts
-use Rattle.file_cases.proofs.run_case.Reads as run-case-reads
+use Rattle.check_cases.proofs.main.Statement.{statement}
+use Rattle.check_cases.proofs.main.Tie as tie
+use Rattle.check_cases.proofs.main.Reads as reads
+use Rattle.check_cases.proofs.main.Lts as lts
+use Rattle.check_cases.proofs.run_case.Reads as run-case-reads
 
 abbrev Inv-loop : tie.InvT-loop
-Inv-loop k₀ k = k ≤ 62
+Inv-loop k₀ k = k ≤ 72
 
 abbrev μ-loop : tie.MeasureT-loop
-μ-loop k₀ k = 62 - k
+μ-loop k₀ k = 72 - k
 
--- src/main.rt:62:5
+-- src/main.rt:72:5
 loop-holds : tie.Need-loop-holds Inv-loop μ-loop
 loop-holds c = search needs
 
@@ -25,11 +25,11 @@ run-case-requires c κs = search needs
 add-k : tie.Need-add-k Inv-loop μ-loop
 add-k c = search needs
 
--- src/main.rt:62:5
+-- src/main.rt:72:5
 loop-less : tie.Need-loop-less Inv-loop μ-loop
 loop-less c = search needs
 
--- src/main.rt:62:5
+-- src/main.rt:72:5
 loop-again : tie.Need-loop-again Inv-loop μ-loop
 loop-again c = search needs
 

@@ -1,11 +1,8 @@
-// Runs every case of data/ through the two files' tests, in the order of the check, and prints its note and its number.
-use files::form::form_beside;
+// Runs every case of data/ through the check, and prints its note and its number.
 use libc::STDOUT_FILENO;
-use network::network::net_number;
-ghost use lib.ListN.{length};
 ghost use Rattle.io.specs.Counts.{Counts};
 
-const CASES: usize = 62;
+const CASES: usize = 72;
 
 fn digit(k: usize) -> u8 {
     b'0' + (k % 10) as u8
@@ -29,16 +26,6 @@ fn read_file(path: &[u8; 7], buffer: &mut [u8]) -> usize
     count
 }
 
-fn number(net: &[u8], labels: &[u8]) -> u32 {
-    let number = net_number(net);
-    if number != 0 {
-        return number;
-    }
-    let mut depths: [u32; 1024] = [0; 1024];
-    let mut starts: [u32; 1024] = [0; 1024];
-    form_beside(net, labels, &mut depths, &mut starts)
-}
-
 fn wide(x: u32) -> u64 {
     x as u64
 }
@@ -50,9 +37,9 @@ fn run_case(k: usize) {
     io::write_all(STDOUT_FILENO, b": ");
     let mut net = io::large_buffer();
     let net_length = read_file(&path(k, b'n', b'e', b't'), &mut net);
-    let mut labels = io::large_buffer();
-    let labels_length = read_file(&path(k, b'l', b'a', b'b'), &mut labels);
-    let answer = number(&net[0..net_length], &labels[0..labels_length]);
+    let mut list_bytes = io::large_buffer();
+    let list_length = read_file(&path(k, b'l', b'a', b'b'), &mut list_bytes);
+    let answer = labels::check(&net[0..net_length], &list_bytes[0..list_length]);
     io::print_decimal(STDOUT_FILENO, wide(answer));
     io::write_all(STDOUT_FILENO, b"\n");
 }
