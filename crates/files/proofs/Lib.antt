@@ -9,3 +9,7 @@ pub mod Lists
 pub mod Faults
 pub mod Entries
 pub mod Scan
+pub mod FormLaws
+pub mod FormTests
+pub mod ShowLaws
+pub mod ShowUnique

@@ -6,3 +6,6 @@ pub mod LabelForm
 pub mod Formed
 pub mod ParentsRead
 pub mod Scanned
+pub mod FormRead
+pub mod Shown
+pub mod Span

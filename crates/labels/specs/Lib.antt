@@ -3,4 +3,3 @@ pub mod Check
 pub mod Batch
 pub mod Route
 pub mod List
-pub mod Show

@@ -1,0 +1,282 @@
+-- The tests of a label file one by one, in the shape in which the code meets them.
+-- In this order: the header; 14, alone and beside a network; the parents; the lists; the parts together; labels alone; labels beside a network.
+use mathlib.Core.Path.{_≡_, sym, _∙_}
+use mathlib.Core.Bool.{Bool, true, false, not}
+use mathlib.Core.List.{List}
+use Prim.Native.Nat.{ℕ, _+_, _*_, _≤_, _<_}
+use native.Mathlib.Omega.{arith}
+use lib.Dec.{leb, eqb}
+use lib.ListN.{length}
+use borrow.Author.Tests.{le-leb, lt-leb, eq-eqb, ne-eqb, not-true, not-false}
+use Rattle.refusals.specs.Order.{unless, decided, every}
+use Rattle.network.specs.Bytes.{marked}
+use Rattle.network.specs.Versions.{labelsServed}
+use Rattle.network.specs.Reads.{ReadU16}
+use Rattle.network.specs.NetworkFile.{junctionsOf, roadsOf, identityOf}
+use Rattle.network.specs.Fits.{NetworkFits}
+use Rattle.files.specs.LabelFile.{entriesOf}
+use Rattle.files.specs.Forest.{roadJoins}
+use Rattle.files.specs.LabelForm.{mostBytes, labelForm, sameNetwork, formBeside, formAlone}
+use Rattle.files.specs.Formed.{ParentsFit, DepthsFilled}
+use Rattle.files.specs.ParentsRead.{ParentsTested}
+use Rattle.files.specs.Scanned.{Scanned}
+use Rattle.files.specs.FormRead.{
+  headerForm,
+  parentsForm,
+  listsForm,
+  junctionsFit,
+  ParentsNumbered,
+  ListsNumbered,
+  FormRead,
+  AloneRead,
+  BesideRead,
+}
+use Rattle.files.proofs.Faults.{decided-fault}
+use Rattle.files.proofs.FormLaws.{
+  label-parts,
+  header-fits,
+  parents-form-fit,
+  junctions-fit-few,
+  form-alone-passed,
+  same-network-size,
+  form-beside-passed,
+}
+
+-- ---- The header
+
+module _ (s : List ℕ) where
+  -- 11, under 16 bytes
+  pub header-short : length s < 16 → 11 ≡ headerForm s
+  unfolding headerForm
+  header-short h = rw (lt-leb 16 (length s) h)
+
+  module _ (long : 16 ≤ length s) where
+    -- 11, over the most
+    pub header-huge : mostBytes < length s → 11 ≡ headerForm s
+    unfolding headerForm
+    header-huge h = rw (le-leb 16 (length s) long, lt-leb (length s) mostBytes h)
+
+    module _ (few : length s ≤ mostBytes) {mark : Bool} (mark-is : mark ≡ marked 84 76 66 s) where
+      -- 12
+      pub header-unmarked : not mark ≡ true → 12 ≡ headerForm s
+      unfolding headerForm
+      header-unmarked fails = rw (le-leb 16 (length s) long, le-leb (length s) mostBytes few, ← mark-is, not-true mark fails)
+
+      module _ (has-mark : not mark ≡ false) {version : ℕ} {served : Bool} (version-is : ReadU16 s 3 version) (served-is : served ≡ labelsServed version) where
+        -- what is left after 12
+        after-mark : headerForm s ≡ unless served 13 0
+        unfolding headerForm
+        after-mark = rw (le-leb 16 (length s) long, le-leb (length s) mostBytes few, ← mark-is, not-false mark has-mark, ← version-is .is, ← served-is)
+
+        -- 13
+        pub header-unserved : not served ≡ true → 13 ≡ headerForm s
+        header-unserved fails = rw (after-mark, not-true served fails)
+
+        -- no fault
+        pub header-passes : not served ≡ false → 0 ≡ headerForm s
+        header-passes holds = rw (after-mark, not-false served holds)
+
+-- a header that passed can be read, and says that the file is not too long
+module _ (s : List ℕ) {header : ℕ} (header-is : header ≡ headerForm s) (passes : header ≡ 0) where
+  pub header-long : 16 ≤ length s
+  header-long = header-fits s (sym header-is ∙ passes) .long
+
+  pub header-few : length s ≤ mostBytes
+  header-few = header-fits s (sym header-is ∙ passes) .few-bytes
+
+-- ---- 14
+
+module _ (s : List ℕ) {n : ℕ} (n-is : ReadU16 s 6 n) where
+  -- no junction
+  pub junctions-none : n < 1 → false ≡ junctionsFit s
+  junctions-none h = rw (lt-leb 1 (junctionsOf s) (omega arith))
+
+  -- some, and the most decides
+  pub junctions-some : 1 ≤ n → leb n 1024 ≡ junctionsFit s
+  junctions-some h = rw (le-leb 1 (junctionsOf s) (omega arith), ← n-is .is)
+
+module _ (net s : List ℕ) {n junctions : ℕ} (n-is : ReadU16 s 6 n) (junctions-is : ReadU16 net 6 junctions) where
+  -- n differs
+  pub other-size : (n ≡ junctions → ⊥) → false ≡ sameNetwork net s
+  unfolding sameNetwork
+  other-size apart = rw (← n-is .is, ← junctions-is .is, ne-eqb n junctions apart)
+
+  -- one n, and the identity decides
+  pub same-size : {identity asked : ℕ} → n ≡ junctions → identity ≡ identityOf s → asked ≡ identityOf net → eqb identity asked ≡ sameNetwork net s
+  unfolding sameNetwork
+  same-size e identity-is asked-is = rw (← n-is .is, ← junctions-is .is, eq-eqb n junctions e, ← identity-is, ← asked-is)
+
+-- ---- The parents
+
+module _ (s : List ℕ) {n : ℕ} (n-is : ReadU16 s 6 n) where
+  -- 11, cut off
+  pub parents-cut : {depths : List ℕ} → length s < 16 + 2 * n → length depths ≡ 1024 → ParentsNumbered s depths 11
+  unfolding parentsForm
+  parents-cut h places =
+      record {
+        number = rw (lt-leb (16 + 2 * junctionsOf s) (length s) (omega arith));
+        filled = λ z. absurd (omega arith);
+        places = places;
+      }
+
+  module _ (inside : 16 + 2 * n ≤ length s) {depths : List ℕ} {fine : Bool} (tested : ParentsTested s depths fine) where
+    -- what is left of parents that stand whole
+    after-inside : parentsForm s ≡ unless fine 15 0
+    unfolding parentsForm
+    after-inside = rw (le-leb (16 + 2 * junctionsOf s) (length s) (omega arith), ← tested .is)
+
+    -- 15
+    pub parents-misfit : not fine ≡ true → ParentsNumbered s depths 15
+    parents-misfit fails =
+        record {
+          number = rw (after-inside, not-true fine fails);
+          filled = λ z. absurd (omega arith);
+          places = tested .places;
+        }
+
+    -- no fault
+    pub parents-pass : not fine ≡ false → ParentsNumbered s depths 0
+    parents-pass holds =
+        record {
+          number = rw (after-inside, not-false fine holds);
+          filled = λ z. tested .filled (not-false fine holds);
+          places = tested .places;
+        }
+
+-- parents whose number is 0 are fit to be read further, and their depths are filled
+pub numbered-fit : {s depths : List ℕ} {parents : ℕ} → junctionsOf s ≤ 1024 → ParentsNumbered s depths parents → parents ≡ 0 → ParentsFit s
+numbered-fit few numbered passes = parents-form-fit few (sym (numbered .number) ∙ passes)
+
+pub numbered-filled : {s depths : List ℕ} {parents : ℕ} → ParentsNumbered s depths parents → parents ≡ 0 → DepthsFilled s depths
+numbered-filled numbered passes = numbered .filled passes
+
+-- ---- The lists
+
+module _ (s : List ℕ) {starts : List ℕ} {number at total : ℕ} (scanned : Scanned s starts number at total) where
+  -- a number of the lists that refuses is the number
+  lists-numbered : {r : ℕ} → r ≡ listsForm s → (r ≡ 0 → ⊥) → ListsNumbered s starts r
+  lists-numbered is fails = record { number = is; filled = λ z. absurd (fails z); places = scanned .places }
+
+  -- 11 or 17 among the lists
+  pub lists-fault : (number ≡ 0 → ⊥) → ListsNumbered s starts number
+  unfolding listsForm
+  lists-fault fails = lists-numbered (rw (← scanned .is) (sym (decided-fault _ fails))) fails
+
+  module _ (passes : number ≡ 0) where
+    -- what is left after the lists
+    after-lists : listsForm s ≡ unless (eqb at (length s)) 11 (unless (eqb total (entriesOf s)) 17 0)
+    unfolding listsForm
+    after-lists = rw (← scanned .is, passes, ← scanned .behind passes, ← scanned .sum passes)
+
+    -- 11, bytes left
+    pub lists-bytes-left : (at ≡ length s → ⊥) → ListsNumbered s starts 11
+    lists-bytes-left apart = lists-numbered (rw (after-lists, ne-eqb at (length s) apart)) (λ z. omega arith)
+
+    module _ (ends : at ≡ length s) {entries : ℕ} (entries-is : entries ≡ entriesOf s) where
+      -- 17, wrong E
+      pub lists-entries : (total ≡ entries → ⊥) → ListsNumbered s starts 17
+      lists-entries apart =
+          lists-numbered
+          (rw (after-lists, eq-eqb at (length s) ends, ← entries-is, ne-eqb total entries apart))
+          (λ z. omega arith)
+
+      -- no fault
+      pub lists-pass : total ≡ entries → ListsNumbered s starts 0
+      lists-pass e =
+          record {
+            number = rw (after-lists, eq-eqb at (length s) ends, ← entries-is, eq-eqb total entries e);
+            filled = λ z. scanned .starts-filled passes;
+            places = scanned .places;
+          }
+
+-- ---- The parts together
+
+-- a number that refuses is the file's, whatever the tables hold
+refused :
+    {s depths starts : List ℕ} {form r : ℕ} → r ≡ form → (r ≡ 0 → ⊥) → length depths ≡ 1024 → length starts ≡ 1024 →
+    FormRead s depths starts form r
+refused is fails depth-places start-places =
+    record {
+      number = is;
+      depths-filled = λ z. absurd (fails z);
+      starts-filled = λ z. absurd (fails z);
+      depth-places = depth-places;
+      start-places = start-places;
+    }
+
+module _ (s : List ℕ) (fits joins : Bool) {header : ℕ} (header-is : header ≡ headerForm s) where
+  -- the header refuses
+  pub read-header :
+      {depths starts : List ℕ} → (header ≡ 0 → ⊥) → length depths ≡ 1024 → length starts ≡ 1024 →
+      FormRead s depths starts (labelForm fits joins s) header
+  read-header fails = refused (rw (label-parts fits joins s, ← header-is) (sym (decided-fault _ fails))) fails
+
+  module _ (header-passes : header ≡ 0) {fit : Bool} (fit-is : fit ≡ fits) where
+    -- what is left after the header
+    after-header : labelForm fits joins s ≡ unless fit 14 (decided (parentsForm s) (unless joins 16 (listsForm s)))
+    after-header = rw (label-parts fits joins s, ← header-is, header-passes, ← fit-is)
+
+    -- 14
+    pub read-misfit :
+        {depths starts : List ℕ} → not fit ≡ true → length depths ≡ 1024 → length starts ≡ 1024 →
+        FormRead s depths starts (labelForm fits joins s) 14
+    read-misfit fails = refused (rw (after-header, not-true fit fails)) (λ z. omega arith)
+
+    module _ (holds : not fit ≡ false) {depths : List ℕ} {parents : ℕ} (numbered : ParentsNumbered s depths parents) where
+      -- the parents refuse
+      pub read-parents : {starts : List ℕ} → (parents ≡ 0 → ⊥) → length starts ≡ 1024 → FormRead s depths starts (labelForm fits joins s) parents
+      read-parents fails =
+          refused
+          (rw (after-header, not-false fit holds, ← numbered .number) (sym (decided-fault _ fails)))
+          fails
+          (numbered .places)
+
+      module _ (parents-pass : parents ≡ 0) {join : Bool} (join-is : join ≡ joins) where
+        -- what is left after the parents
+        after-parents : labelForm fits joins s ≡ unless join 16 (listsForm s)
+        after-parents = rw (after-header, not-false fit holds, ← numbered .number, parents-pass, ← join-is)
+
+        -- 16
+        pub read-unjoined : {starts : List ℕ} → not join ≡ true → length starts ≡ 1024 → FormRead s depths starts (labelForm fits joins s) 16
+        read-unjoined fails = refused (rw (after-parents, not-true join fails)) (λ z. omega arith) (numbered .places)
+
+        -- the lists decide
+        pub read-lists :
+            {starts : List ℕ} {r : ℕ} → not join ≡ false → ListsNumbered s starts r → FormRead s depths starts (labelForm fits joins s) r
+        read-lists joined lists =
+            record {
+              number = rw (after-parents, not-false join joined) (lists .number);
+              depths-filled = λ z. numbered .filled parents-pass;
+              starts-filled = lists .filled;
+              depth-places = numbered .places;
+              start-places = lists .places;
+            }
+
+-- ---- Labels alone
+
+-- where 14 is passed there are at most 1,024 junctions
+pub alone-few : (s : List ℕ) {fit : Bool} → fit ≡ junctionsFit s → not fit ≡ false → junctionsOf s ≤ 1024
+alone-few s {fit} fit-is holds = junctions-fit-few s (sym fit-is ∙ not-false fit holds) .1
+
+-- what is read of a file's form alone says whether it is formed
+pub alone-read : {s depths starts : List ℕ} {r : ℕ} → FormRead s depths starts (labelForm (junctionsFit s) true s) r → AloneRead s depths starts r
+unfolding formAlone
+alone-read {s} read = record { read = read; formed = λ z. form-alone-passed s (sym (read .number) ∙ z) }
+
+-- ---- Labels beside a network
+
+module _ {net : List ℕ} (s : List ℕ) (network : NetworkFits net) where
+  -- where 14 is passed there are as many junctions as the network has
+  pub beside-size : {fit : Bool} → fit ≡ sameNetwork net s → not fit ≡ false → junctionsOf net ≡ junctionsOf s
+  beside-size {fit} fit-is holds = same-network-size net s (sym fit-is ∙ not-false fit holds)
+
+  pub beside-few : {fit : Bool} → fit ≡ sameNetwork net s → not fit ≡ false → junctionsOf s ≤ 1024
+  beside-few fit-is holds = omega (arith, beside-size fit-is holds, network .few-junctions)
+
+  -- what is read of a file's form beside a network says whether they stand together
+  pub beside-read :
+      {depths starts : List ℕ} {r : ℕ} →
+      FormRead s depths starts (labelForm (sameNetwork net s) (every (roadJoins net s) (roadsOf net)) s) r →
+      BesideRead net s depths starts r
+  unfolding formBeside
+  beside-read read = record { read = read; beside = λ z. form-beside-passed s network (sym (read .number) ∙ z) }

@@ -1,0 +1,110 @@
+-- Finding the bytes to show, one law for each way through.
+-- In this order: whether a junction is a proper ancestor; the bytes of a list; the part that they are.
+use mathlib.Core.Path.{_≡_, refl, sym, ap, _∙_}
+use mathlib.Core.Logic.{inr, ⊎-elim}
+use mathlib.Core.Bool.{Bool, true, false, not, false≢true}
+use mathlib.Core.List.{List}
+use Prim.Native.Nat.{ℕ, _+_, _-_, _≤_, _<_}
+use native.Mathlib.Omega.{arith}
+use lib.ListN.{length, take, drop}
+use borrow.Author.Tests.{not-true, not-false}
+use Rattle.network.specs.NetworkFile.{junctionsOf}
+use Rattle.files.specs.LabelFile.{listEnd}
+use Rattle.files.specs.Forest.{depthOf, isAncestor}
+use Rattle.files.specs.Stored.{listPlace}
+use Rattle.files.specs.LabelForm.{formAlone}
+use Rattle.files.specs.Formed.{ParentsFit, Formed}
+use Rattle.files.specs.Scanned.{FoundList}
+use Rattle.files.specs.Shown.{Shows, Shown, nothing, bytes}
+use Rattle.files.specs.Span.{AboveTested, Spans, none, list, SpanFound}
+use Rattle.files.proofs.Forest.{above-shallower, is-ancestor-sound, is-ancestor-complete}
+use Rattle.files.proofs.Places.{list-takes, found-fits}
+
+-- ---- Whether u is a proper ancestor of v
+
+module _ {s : List ℕ} (fit : ParentsFit s) where
+  -- a junction is none of itself
+  pub above-itself : (u v : ℕ) → u ≡ v → AboveTested s u v false
+  above-itself u v e =
+      record {
+        yes! = λ z. absurd (false≢true z);
+        no! = λ z above. omega (arith, above-shallower s (fit .ends) above, ap (depthOf s) e);
+      }
+
+  -- of any other an ancestor is a proper one
+  pub above-other : (u v : ℕ) {r : Bool} → v < junctionsOf s → (u ≡ v → ⊥) → r ≡ isAncestor s u v → AboveTested s u v r
+  above-other u v below apart is =
+      record {
+        yes! = λ z. ⊎-elim (λ e. absurd (apart e)) (λ above. above) (is-ancestor-sound fit u v below (sym is ∙ z));
+        no! = λ z above. false≢true (sym z ∙ is ∙ is-ancestor-complete fit below (inr above));
+      }
+
+  pub above-deeper : {u v : ℕ} {r : Bool} → AboveTested s u v r → not r ≡ false → depthOf s u < depthOf s v
+  above-deeper {r = r} tested holds = above-shallower s (fit .ends) (tested .yes! (not-false r holds))
+
+-- ---- The bytes of a list
+
+-- nothing is shown, and no bytes span it
+pub span-none : {s : List ℕ} {v u : ℕ} → (Shows s v u → ⊥) → SpanFound s v u 0 0
+span-none h = record { spans = none h refl refl; rises = omega arith; inside = omega arith }
+
+-- labels that are refused show nothing
+pub span-refused : {s : List ℕ} {v u r : ℕ} → r ≡ formAlone s → (r ≡ 0 → ⊥) → SpanFound s v u 0 0
+span-refused is fails = span-none (λ h. fails (is ∙ h .formed))
+
+module _ {s : List ℕ} (v u : ℕ) {n : ℕ} (n-is : n ≡ junctionsOf s) where
+  -- nor does a v or a u that is no junction
+  pub span-v-off : n ≤ v → SpanFound s v u 0 0
+  span-v-off off = span-none (λ h. omega (arith, h .junction))
+
+  pub span-u-off : n ≤ u → SpanFound s v u 0 0
+  span-u-off off = span-none (λ h. omega (arith, h .ancestor-junction))
+
+-- nor does a u that is no proper ancestor
+pub span-not-above : {s : List ℕ} {v u : ℕ} {r : Bool} → AboveTested s u v r → not r ≡ true → SpanFound s v u 0 0
+span-not-above {r = r} tested fails = span-none (λ h. tested .no! (not-true r fails) (h .proper-ancestor))
+
+-- a list that was found has its count in the file
+pub found-stands : {s : List ℕ} {v u at : ℕ} → Formed s → FoundList s v u at → at + 2 ≤ length s
+found-stands {s} {at = at} formed found = omega (arith, list-takes s at, found-fits formed found .inside)
+
+-- and is shown from its count through its last entry
+pub span-list :
+    {s : List ℕ} {v u n at end : ℕ} {r : Bool} → formAlone s ≡ 0 → Formed s → n ≡ junctionsOf s → v < n → u < n →
+    AboveTested s u v r → not r ≡ false → FoundList s v u at → end ≡ listEnd s at → SpanFound s v u at end
+span-list {s} {v} {u} {n} {at} {end} {r} passes formed n-is v-on u-on tested holds found is =
+    record {
+      spans =
+          list
+          (record {
+            formed = passes;
+            junction = omega arith;
+            ancestor-junction = omega arith;
+            proper-ancestor = tested .yes! (not-false r holds);
+          })
+          (found .place)
+          (is ∙ ap (listEnd s) (found .place));
+      rises = omega (arith, list-takes s at);
+      inside = omega (arith, found-fits formed found .inside);
+    }
+
+-- ---- The part that they are
+
+pub span-shown :
+    {s part : List ℕ} {v u start end : ℕ} → SpanFound s v u start end → part ≡ take (end - start) (drop start s) → Shown s v u part
+span-shown {s} {part} {v} {u} {start} {end} found is = pick (found .spans)
+  where
+    pick : Spans s v u start end → Shown s v u part
+    pick (none h from to) = nothing h (is ∙ rw (from, to))
+    pick (list h from to) = bytes h (is ∙ rw (from, to))
+
+-- where some byte is shown, the first is that of the list's count
+pub span-place :
+    {s : List ℕ} {v u start end : ℕ} → SpanFound s v u start end → 1 ≤ length (take (end - start) (drop start s)) → start ≡ listPlace s v u
+span-place {s} {v} {u} {start} {end} found some = pick (found .spans)
+  where
+    pick : Spans s v u start end → start ≡ listPlace s v u
+    pick (none h from to) =
+        let empty : length (take (end - start) (drop start s)) ≡ 0 = rw (from, to) in
+        absurd (omega arith)
+    pick (list h from to) = from

@@ -1,0 +1,42 @@
+-- Parents that stand whole are tested by `fill_depths`, and one that fails gives 15.
+use Rattle.files.proofs.FormTests.{parents-cut, parents-misfit, parents-pass}
+use borrow.Author.Needs.{needs}
+use Rattle.files.proofs.form.parents_form.Statement.{statement}
+use Rattle.files.proofs.form.parents_form.Tie as tie
+
+u16-at-requires : tie.Need-u16-at-requires
+u16-at-requires c κs = search needs
+
+cast-n : tie.Need-cast-n
+cast-n c = search needs
+
+mul-if1 : tie.Need-mul-if1
+mul-if1 c = search needs
+
+add-if1 : tie.Need-add-if1
+add-if1 c = search needs
+
+returns : tie.Need-returns
+returns c = search (parents-cut)
+
+fill-depths-requires : tie.Need-fill-depths-requires
+fill-depths-requires c κs = search needs
+
+returns-2 : tie.Need-returns-2
+returns-2 c = search (parents-misfit)
+
+returns-3 : tie.Need-returns-3
+returns-3 c = search (parents-pass)
+
+pub parents-form-spec : {M : Type 1} → statement M
+parents-form-spec =
+    tie.close
+    (tie.spec
+    u16-at-requires
+    cast-n
+    mul-if1
+    add-if1
+    returns
+    fill-depths-requires
+    returns-2
+    returns-3)

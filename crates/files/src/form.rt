@@ -1,0 +1,170 @@
+// The form of a label file: which number of 11 to 17 it is refused by, alone or beside a network.
+use crate::parents::fill_depths;
+use crate::parents::roads_join;
+use crate::stored::scan_lists;
+use network::bytes::marked;
+use network::bytes::u16_at;
+use network::bytes::u32_at;
+ghost use mathlib.Core.Path.{_≡_};
+ghost use Prim.Native.Nat.{_≤_};
+ghost use lib.ListN.{length};
+ghost use Rattle.network.specs.Versions.{labelsServed};
+ghost use Rattle.network.specs.NetworkFile.{junctionsOf};
+ghost use Rattle.network.specs.Fits.{NetworkFits};
+ghost use Rattle.files.specs.LabelForm.{mostBytes, sameNetwork};
+ghost use Rattle.files.specs.Formed.{ParentsFit, DepthsFilled};
+ghost use Rattle.files.specs.FormRead.{
+  headerForm,
+  junctionsFit,
+  ParentsNumbered,
+  ListsNumbered,
+  AloneRead,
+  BesideRead,
+};
+
+const MOST_BYTES: usize = 4194304;
+
+// Whether a label file of this version is served.
+pub fn labels_served(version: u32) -> bool
+    ensures { λ r. ⌜ r ≡ labelsServed version ⌝ }
+{
+    version == 1
+}
+
+// 11 for too few or too many bytes, 12, 13, or 0.
+fn header_form(labels: &[u8]) -> u32
+    ensures { λ r. ⌜ r ≡ headerForm (now (labels .entry)) ⌝ }
+{
+    if labels.len() < 16 {
+        return 11;
+    }
+    if labels.len() > MOST_BYTES {
+        return 11;
+    }
+    if !marked(b'T', b'L', b'B', labels) {
+        return 12;
+    }
+    if !labels_served(u16_at(labels, 3)) {
+        return 13;
+    }
+    0
+}
+
+// What 14 asks where there is no network.
+fn junctions_fit(labels: &[u8]) -> bool
+    requires { ⌜ 16 ≤ length (now labels) ⌝ }
+    ensures { λ r. ⌜ r ≡ junctionsFit (now (labels .entry)) ⌝ }
+{
+    let n = u16_at(labels, 6);
+    if n < 1 {
+        return false;
+    }
+    n <= 1024
+}
+
+// What 14 asks beside a network.
+fn same_network(net: &[u8], labels: &[u8]) -> bool
+    requires { ⌜ 16 ≤ length (now net) ⌝ }
+    requires { ⌜ 16 ≤ length (now labels) ⌝ }
+    ensures { λ r. ⌜ r ≡ sameNetwork (now (net .entry)) (now (labels .entry)) ⌝ }
+{
+    let n = u16_at(labels, 6);
+    let junctions = u16_at(net, 6);
+    if n != junctions {
+        return false;
+    }
+    let identity = u32_at(labels, 12);
+    let asked = u32_at(net, 12);
+    identity == asked
+}
+
+// 11 for parents that are cut off, 15, or 0; at 0 the depths are filled.
+fn parents_form(labels: &[u8], depths: &mut [u32; 1024]) -> u32
+    requires { ⌜ 16 ≤ length (now labels) ⌝ }
+    requires { ⌜ junctionsOf (now labels) ≤ 1024 ⌝ }
+    requires { ⌜ length (now depths) ≡ 1024 ⌝ }
+    ensures { λ r. ⌜ ParentsNumbered (now (labels .entry)) (now (depths .exit)) r ⌝ }
+{
+    let n = u16_at(labels, 6) as usize;
+    if labels.len() < 16 + 2 * n {
+        return 11;
+    }
+    if !fill_depths(labels, depths) {
+        return 15;
+    }
+    0
+}
+
+// The number of the lists, then 11 for bytes left, 17 for a wrong count of all entries, or 0; at 0 the starts are filled.
+fn lists_form(labels: &[u8], depths: &[u32; 1024], starts: &mut [u32; 1024]) -> u32
+    requires { ⌜ ParentsFit (now labels) ⌝ }
+    requires { ⌜ DepthsFilled (now labels) (now depths) ⌝ }
+    requires { ⌜ length (now labels) ≤ mostBytes ⌝ }
+    requires { ⌜ length (now starts) ≡ 1024 ⌝ }
+    ensures { λ r. ⌜ ListsNumbered (now (labels .entry)) (now (starts .exit)) r ⌝ }
+{
+    let scan = scan_lists(labels, depths, starts);
+    let number = scan.number;
+    if number != 0 {
+        return number;
+    }
+    let behind = scan.at;
+    if behind != labels.len() {
+        return 11;
+    }
+    let total = scan.total;
+    let entries = u32_at(labels, 8) as usize;
+    if total != entries {
+        return 17;
+    }
+    0
+}
+
+// 11 to 15 or 17 for labels alone, or 0; at 0 both tables are filled.
+pub fn form_alone(labels: &[u8], depths: &mut [u32; 1024], starts: &mut [u32; 1024]) -> u32
+    requires { ⌜ length (now depths) ≡ 1024 ⌝ }
+    requires { ⌜ length (now starts) ≡ 1024 ⌝ }
+    ensures { λ r. ⌜ AloneRead (now (labels .entry)) (now (depths .exit)) (now (starts .exit)) r ⌝ }
+{
+    let header = header_form(labels);
+    if header != 0 {
+        return header;
+    }
+    if !junctions_fit(labels) {
+        return 14;
+    }
+    let parents = parents_form(labels, depths);
+    if parents != 0 {
+        return parents;
+    }
+    lists_form(labels, depths, starts)
+}
+
+// 11 to 17 for labels beside a network that passed, or 0; at 0 both tables are filled.
+pub fn form_beside(
+    net: &[u8],
+    labels: &[u8],
+    depths: &mut [u32; 1024],
+    starts: &mut [u32; 1024],
+) -> u32
+    requires { ⌜ NetworkFits (now net) ⌝ }
+    requires { ⌜ length (now depths) ≡ 1024 ⌝ }
+    requires { ⌜ length (now starts) ≡ 1024 ⌝ }
+    ensures { λ r. ⌜ BesideRead (now (net .entry)) (now (labels .entry)) (now (depths .exit)) (now (starts .exit)) r ⌝ }
+{
+    let header = header_form(labels);
+    if header != 0 {
+        return header;
+    }
+    if !same_network(net, labels) {
+        return 14;
+    }
+    let parents = parents_form(labels, depths);
+    if parents != 0 {
+        return parents;
+    }
+    if !roads_join(net, labels, depths) {
+        return 16;
+    }
+    lists_form(labels, depths, starts)
+}
