@@ -1,14 +1,15 @@
 -- The tests are the definition's, in its order.
+use native.Mathlib.Omega.{arith}
 use Rattle.files.proofs.FormTests.{header-short, header-huge, header-unmarked, header-unserved, header-passes}
 use borrow.Author.Needs.{needs}
 use Rattle.files.proofs.form.header_form.Statement.{statement}
 use Rattle.files.proofs.form.header_form.Tie as tie
 
 returns : tie.Need-returns
-returns c = search (header-short)
+returns c = header-short _ (omega arith)
 
 returns-2 : tie.Need-returns-2
-returns-2 c = search (header-huge)
+returns-2 c = header-huge _ (omega arith) (omega arith)
 
 marked-requires : tie.Need-marked-requires
 marked-requires c κs = search needs

@@ -8,10 +8,10 @@ scan-lists-requires : tie.Need-scan-lists-requires
 scan-lists-requires c κs = search needs
 
 returns : tie.Need-returns
-returns c = search (lists-fault)
+returns c = lists-fault _ (c .before .scan-lists .ensures) (c .if1 .taken)
 
 returns-2 : tie.Need-returns-2
-returns-2 c = search (lists-bytes-left)
+returns-2 c = lists-bytes-left _ (c .before .before .scan-lists .ensures) (c .before .if1 .left) (c .if2 .taken)
 
 u32-at-requires : tie.Need-u32-at-requires
 u32-at-requires c κs = search needs
@@ -20,10 +20,16 @@ cast-entries : tie.Need-cast-entries
 cast-entries c = search needs
 
 returns-3 : tie.Need-returns-3
-returns-3 c = search (lists-entries)
+returns-3 c =
+    let ended = c .before .before in
+    lists-entries _ (ended .before .before .scan-lists .ensures) (ended .before .if1 .left) (ended .if2 .left) (c .before .u32-at .ensures)
+    (c .if3 .taken)
 
 returns-4 : tie.Need-returns-4
-returns-4 c = search (lists-pass)
+returns-4 c =
+    let ended = c .before .before in
+    lists-pass _ (ended .before .before .scan-lists .ensures) (ended .before .if1 .left) (ended .if2 .left) (c .before .u32-at .ensures)
+    (c .if3 .left)
 
 pub lists-form-spec : {M : Type 1} → statement M
 lists-form-spec =
