@@ -3,8 +3,9 @@
 //! - [`inputs`]: files and lists, the same in every run
 //! - [`plain`]: the algorithms in plain, safe Rust
 //! - [`proved`]: the proved functions, over their C interface
-//! - [`timing`]: how a pair is timed, and its line of the table
+//! - [`timing`], [`clock`]: how a pair is timed, and its line of the table
 
+mod clock;
 mod inputs;
 mod plain;
 mod proved;
@@ -37,12 +38,12 @@ fn main() {
         limited_join(size, &lists::joined(&mut random, size, ENTRIES / size));
     }
     // A join is much slower than the walk above: fewer lists do.
-    for (size, count) in [(10, 4_000), (100, 40), (1_000, 1)] {
+    for (size, count) in [(10, 2_000), (100, 20), (1_000, 2)] {
         let inputs = lists::joined(&mut random, size, count);
-        join(&format!("{count} of {size} entries"), &inputs);
+        join(&format!("{count} pairs of {size} entries"), &inputs);
     }
     let few = [lists::few_unbeaten(&mut random, 4_095)];
-    join("1 of 4,095 entries, 8,189 unbeaten sums", &few);
+    join("1 pair of 4095 entries, few unbeaten sums", &few);
 }
 
 /// What the figures depend on besides the code.
@@ -109,7 +110,10 @@ fn cover(size: usize, inputs: &[Covered]) {
             inputs.iter().filter(yes).count()
         },
     );
-    row.print("covering", &format!("{} of {size} entries", inputs.len()));
+    row.print(
+        "covering",
+        &format!("{} pairs of {size} entries", inputs.len()),
+    );
 }
 
 fn limited_join(size: usize, inputs: &[Joined]) {
@@ -133,7 +137,7 @@ fn limited_join(size: usize, inputs: &[Joined]) {
             answers.map(|best| best.time as usize).sum::<usize>()
         },
     );
-    let input = format!("{} of {size} entries", inputs.len());
+    let input = format!("{} pairs of {size} entries", inputs.len());
     row.print("limited join", &input);
 }
 
@@ -170,5 +174,5 @@ fn join(note: &str, inputs: &[Joined]) {
             answers.map(|answer| answer.count).sum::<u32>()
         },
     );
-    row.print("join", &format!("{note}; {entries} entries out"));
+    row.print("join", &format!("{note}; {entries} out"));
 }

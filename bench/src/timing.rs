@@ -1,13 +1,18 @@
 //! How a pair is timed, and its line of the table.
 
 use std::hint::black_box;
-use std::time::{Duration, Instant};
+use std::time::Duration;
+
+use crate::clock::thread_time;
 
 /// Rounds go on until both limits are passed.
-const LEAST_ROUNDS: usize = 5;
+const LEAST_ROUNDS: usize = 9;
 const LEAST_TIME: Duration = Duration::from_millis(500);
 
-/// The best time of each side.
+/// A run is repeated up to this time, beside which reading the clock takes none.
+const LEAST_RUN: Duration = Duration::from_micros(200);
+
+/// The time of each side.
 pub struct Row {
     plain: Duration,
     proved: Duration,
@@ -24,25 +29,32 @@ impl Row {
     }
 }
 
-/// Runs both sides in turn, so that another load of the machine falls on both, and keeps the best time of each: the time with the
-/// least of other loads in it.
+/// Runs both sides in turn, so that what other loads do to caches falls on both.
 pub fn pair<A, B>(mut plain: impl FnMut() -> A, mut proved: impl FnMut() -> B) -> Row {
-    let mut best = Row {
-        plain: Duration::MAX,
-        proved: Duration::MAX,
-    };
-    let start = Instant::now();
-    let mut rounds = 0;
-    while rounds < LEAST_ROUNDS || start.elapsed() < LEAST_TIME {
-        best.plain = best.plain.min(timed(&mut plain));
-        best.proved = best.proved.min(timed(&mut proved));
-        rounds += 1;
+    let once = timed(1, &mut plain).max(Duration::from_nanos(1));
+    let repeats = 1 + LEAST_RUN.div_duration_f64(once) as u32;
+    let (mut plain_times, mut proved_times) = (Vec::new(), Vec::new());
+    let start = thread_time();
+    while plain_times.len() < LEAST_ROUNDS || thread_time() - start < LEAST_TIME {
+        plain_times.push(timed(repeats, &mut plain));
+        proved_times.push(timed(repeats, &mut proved));
     }
-    best
+    Row {
+        plain: low(plain_times),
+        proved: low(proved_times),
+    }
 }
 
-fn timed<A>(run: &mut impl FnMut() -> A) -> Duration {
-    let start = Instant::now();
-    black_box(run());
-    start.elapsed()
+/// The lower quartile, and not the least: a virtual machine takes stolen time off the clock late, so single times come out too low.
+fn low(mut times: Vec<Duration>) -> Duration {
+    times.sort();
+    times[times.len() / 4]
+}
+
+fn timed<A>(repeats: u32, run: &mut impl FnMut() -> A) -> Duration {
+    let start = thread_time();
+    for _ in 0..repeats {
+        black_box(run());
+    }
+    (thread_time() - start) / repeats
 }

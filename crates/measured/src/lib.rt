@@ -14,6 +14,7 @@ ghost use Rattle.paths.specs.Weights.{pair};
 ghost use Rattle.lists.specs.Entries.{IsList};
 ghost use Rattle.lists.specs.Cover.{Covering};
 ghost use Rattle.lists.specs.Answers.{Join, LimitedJoin};
+ghost use Rattle.measured.specs.FormNumber.{FormNumber};
 
 // What Join answers, for a caller in Rust: the number it refuses by and no count, or 0 and the places filled.
 #[repr(C)]
@@ -32,7 +33,9 @@ pub struct MeasuredBest {
 
 // The form check of a label file beside a network file: the first number that one of them is refused by, or 0.
 #[no_mangle]
-pub extern "C" fn measured_form(net: &[u8], labels: &[u8]) -> u32 {
+pub extern "C" fn measured_form(net: &[u8], labels: &[u8]) -> u32
+    ensures { λ r. ⌜ FormNumber (now (net .entry)) (now (labels .entry)) r ⌝ }
+{
     let number = net_number(net);
     if number != 0 {
         return number;

@@ -3,43 +3,31 @@ use borrow.Author.Needs.{needs}
 use Rattle.measured.proofs.Cases.{sum-case}
 use Rattle.measured.proofs.measured_limited_join.Statement.{statement}
 use Rattle.measured.proofs.measured_limited_join.Tie as tie
-use Rattle.measured.proofs.measured_limited_join.Reads as reads
-use Rattle.measured.proofs.measured_limited_join.Lts as lts
-use Rattle.lists.proofs.sums.limited_join.Reads as limited-join-reads
 
--- src/lib.rt:145:11
 limited-join-requires : tie.Need-limited-join-requires
 limited-join-requires c κs = search needs
 
--- src/lib.rt:146:26
 enum-known-time : tie.Need-enum-known-time
 enum-known-time c = search needs
 
--- src/lib.rt:151:37
 enum-told : tie.Need-enum-told
 enum-told c = search needs
 
--- src/lib.rt:156:33
 enum-told-2 : tie.Need-enum-told-2
 enum-told-2 c = search needs
 
--- src/lib.rt:161:33
 enum-told-3 : tie.Need-enum-told-3
 enum-told-3 c = search needs
 
--- src/lib.rt:124:1
 returns : tie.Need-returns
 returns c = sum-case (c .before .time .given .1) (c .before .before .before .limited-join .ensures)
 
--- src/lib.rt:124:1
 returns-2 : tie.Need-returns-2
 returns-2 c = sum-case (c .enum-told .given .1) (c .before .before .limited-join .ensures)
 
--- src/lib.rt:124:1
 returns-3 : tie.Need-returns-3
 returns-3 c = sum-case (c .enum-told2 .given .1) (c .before .before .limited-join .ensures)
 
--- src/lib.rt:124:1
 returns-4 : tie.Need-returns-4
 returns-4 c = sum-case (c .enum-told3 .given .1) (c .before .before .limited-join .ensures)
 
