@@ -1,0 +1,4 @@
+//! Files and lists to measure on, the same in every run.
+
+pub mod files;
+pub mod lists;

@@ -1,0 +1,178 @@
+//! Times of the proved functions beside plain Rust with the same algorithms, pair by pair in one run.
+//!
+//! - [`inputs`]: files and lists, the same in every run
+//! - [`plain`]: the algorithms in plain, safe Rust
+//! - [`proved`]: the proved functions, over their C interface
+//! - [`timing`], [`clock`]: how a pair is timed, and its line of the table
+
+mod clock;
+mod inputs;
+mod plain;
+mod proved;
+mod timing;
+
+use std::fs;
+use std::hint::black_box;
+use std::thread;
+
+use generate::random::Random;
+
+use inputs::files::{self, Files};
+use inputs::lists::{self, Covered, Joined};
+use timing::{Row, pair};
+
+/// Entries of all lists of one size together: too many for a branch predictor to learn.
+const ENTRIES: usize = 1 << 18;
+
+fn main() {
+    machine();
+    println!("{}", Row::HEAD);
+    for files in files::all() {
+        form(&files);
+    }
+    let mut random = Random::new(0, 1);
+    for size in [10, 100, 1_000, 4_095] {
+        cover(size, &lists::covered(&mut random, size, ENTRIES / size));
+    }
+    for size in [10, 100, 1_000, 4_095] {
+        limited_join(size, &lists::joined(&mut random, size, ENTRIES / size));
+    }
+    // A join is much slower than the walk above: fewer lists do.
+    for (size, count) in [(10, 2_000), (100, 20), (1_000, 2)] {
+        let inputs = lists::joined(&mut random, size, count);
+        join(&format!("{count} pairs of {size} entries"), &inputs);
+    }
+    let few = [lists::few_unbeaten(&mut random, 4_095)];
+    join("1 pair of 4095 entries, few unbeaten sums", &few);
+}
+
+/// What the figures depend on besides the code.
+fn machine() {
+    let processor = fs::read_to_string("/proc/cpuinfo").unwrap_or_default();
+    let model = processor
+        .lines()
+        .find_map(|line| line.strip_prefix("model name"))
+        .map_or("unknown", |rest| rest.trim_start_matches(['\t', ' ', ':']));
+    let cores = thread::available_parallelism().map_or(0, usize::from);
+    let load = fs::read_to_string("/proc/loadavg").unwrap_or_default();
+    let load = load.split(' ').next().unwrap_or_default();
+    println!("{cores} cores, {model}, load {load} at the start\n");
+}
+
+fn form(files: &Files) {
+    let (net, labels) = (&files.net, &files.labels);
+    let input = format!("{}, {} bytes", files.note, labels.len());
+    assert_eq!(proved::form(net, labels), 0, "{input}");
+    let row = pair(
+        || plain::form::by_index(black_box(net), black_box(labels)),
+        || proved::form(black_box(net), black_box(labels)),
+    );
+    row.print("form check, plain Rust by index", &input);
+    let row = pair(
+        || plain::form::by_chunks(black_box(net), black_box(labels)),
+        || proved::form(black_box(net), black_box(labels)),
+    );
+    row.print("form check, plain Rust by chunks", &input);
+    let row = pair(
+        || plain::form::sum_of_bytes(black_box(net), black_box(labels)),
+        || proved::form(black_box(net), black_box(labels)),
+    );
+    row.print("form check, against a sum of all bytes", &input);
+}
+
+fn cover(size: usize, inputs: &[Covered]) {
+    let mut marks = vec![0; size];
+    let mut marks_too = vec![0; size];
+    for input in inputs {
+        marks.fill(0);
+        marks_too.fill(0);
+        let covered = plain::lists::cover(&input.list, input.arc, &input.rest, &mut marks);
+        assert!(covered, "the inputs are made so that no run ends early");
+        assert!(proved::cover(
+            &input.list,
+            input.arc,
+            &input.rest,
+            &mut marks_too
+        ));
+        assert_eq!(marks, marks_too);
+    }
+    let row = pair(
+        || {
+            let yes = |input: &&Covered| {
+                plain::lists::cover(&input.list, input.arc, &input.rest, &mut marks)
+            };
+            inputs.iter().filter(yes).count()
+        },
+        || {
+            let yes = |input: &&Covered| {
+                proved::cover(&input.list, input.arc, &input.rest, &mut marks_too)
+            };
+            inputs.iter().filter(yes).count()
+        },
+    );
+    row.print(
+        "covering",
+        &format!("{} pairs of {size} entries", inputs.len()),
+    );
+}
+
+fn limited_join(size: usize, inputs: &[Joined]) {
+    for input in inputs {
+        assert_eq!(
+            plain::lists::limited_join(&input.first, &input.second, input.limit),
+            proved::limited_join(&input.first, &input.second, input.limit)
+        );
+    }
+    let row = pair(
+        || {
+            let answers = inputs
+                .iter()
+                .map(|input| plain::lists::limited_join(&input.first, &input.second, input.limit));
+            answers.map(|best| best.time as usize).sum::<usize>()
+        },
+        || {
+            let answers = inputs
+                .iter()
+                .map(|input| proved::limited_join(&input.first, &input.second, input.limit));
+            answers.map(|best| best.time as usize).sum::<usize>()
+        },
+    );
+    let input = format!("{} pairs of {size} entries", inputs.len());
+    row.print("limited join", &input);
+}
+
+fn join(note: &str, inputs: &[Joined]) {
+    /// More than any join here has.
+    const ROOM: usize = 1 << 20;
+    let (mut times, mut energies) = (vec![0; ROOM], vec![0; ROOM]);
+    let (mut times_too, mut energies_too) = (vec![0; ROOM], vec![0; ROOM]);
+    let mut entries = 0;
+    for input in inputs {
+        let (first, second) = (&input.first, &input.second);
+        let count = plain::lists::join(first, second, &mut times, &mut energies);
+        let count_too = proved::join(first, second, &mut times_too, &mut energies_too);
+        assert_eq!((count.number, count), (0, count_too));
+        assert_eq!((&times, &energies), (&times_too, &energies_too));
+        entries += count.count;
+    }
+    let row = pair(
+        || {
+            let answers = inputs.iter().map(|input| {
+                plain::lists::join(&input.first, &input.second, &mut times, &mut energies)
+            });
+            answers.map(|answer| answer.count).sum::<u32>()
+        },
+        || {
+            let answers = inputs.iter().map(|input| {
+                proved::join(
+                    &input.first,
+                    &input.second,
+                    &mut times_too,
+                    &mut energies_too,
+                )
+            });
+            answers.map(|answer| answer.count).sum::<u32>()
+        },
+    );
+    row.print("join", &format!("{note}; {entries} out"));
+}

@@ -1,0 +1,24 @@
+-- `measured_form` may ask for the labels' form: a network whose number is 0 fits. Its answer is the number of the file that it asks last.
+use mathlib.Core.Path.{refl}
+use native.Mathlib.Omega.{arith}
+use borrow.Author.Needs.{needs}
+use Rattle.network.proofs.Accepted.{network-fits}
+use Rattle.measured.specs.FormNumber.{network-refused, network-passed}
+use Rattle.measured.proofs.measured_form.Statement.{statement}
+use Rattle.measured.proofs.measured_form.Tie as tie
+
+net-number-requires : tie.Need-net-number-requires
+net-number-requires c κs = search needs
+
+returns : tie.Need-returns
+returns c = let number = c .before .net-number .ensures in network-refused (λ z. omega (arith, number, z)) number
+
+form-beside-requires : tie.Need-form-beside-requires
+form-beside-requires c κs = (network-fits _ (cc), (refl, refl))
+
+returns-2 : tie.Need-returns-2
+returns-2 c = network-passed (cc) (c .form-beside .ensures .read .number)
+
+pub measured-form-spec : {M : Type 1} → statement M
+measured-form-spec =
+    tie.close (tie.spec net-number-requires returns form-beside-requires returns-2)

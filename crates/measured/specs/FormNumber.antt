@@ -1,0 +1,11 @@
+-- What the form check of both files answers.
+use mathlib.Core.Path.{_≡_}
+use mathlib.Core.List.{List}
+use Prim.Native.Nat.{ℕ}
+use Rattle.network.specs.NetworkFile.{netNumber}
+use Rattle.files.specs.LabelForm.{formBeside}
+
+-- The number of the network or, where that is 0, of the labels beside it
+pub data FormNumber (net s : List ℕ) (number : ℕ) : Type 0 where
+  network-refused : (netNumber net ≡ 0 → ⊥) → number ≡ netNumber net → FormNumber net s number
+  network-passed : netNumber net ≡ 0 → number ≡ formBeside net s → FormNumber net s number

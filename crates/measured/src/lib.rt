@@ -1,0 +1,170 @@
+// What bench/ measures, exported to Rust. Each function hands its arguments on, so its time is that of the function measured.
+use files::form::form_beside;
+use lists::JoinAnswer;
+use lists::SumAnswer;
+use lists::cover::cover;
+use lists::join::join;
+use lists::sums::limited_join;
+use network::network::net_number;
+use paths::energy::Energy;
+use paths::seconds::Seconds;
+ghost use Prim.Native.Nat.{_≤_};
+ghost use lib.ListN.{length};
+ghost use Rattle.paths.specs.Weights.{pair};
+ghost use Rattle.lists.specs.Entries.{IsList};
+ghost use Rattle.lists.specs.Cover.{Covering};
+ghost use Rattle.lists.specs.Answers.{Join, LimitedJoin};
+ghost use Rattle.measured.specs.FormNumber.{FormNumber};
+
+// What Join answers, for a caller in Rust: the number it refuses by and no count, or 0 and the places filled.
+#[repr(C)]
+pub struct MeasuredCount {
+    pub number: u32,
+    pub count: u32,
+}
+
+// What Limited join answers: the number it refuses by beside zeros, or 0 and the best sum.
+#[repr(C)]
+pub struct MeasuredBest {
+    pub number: u32,
+    pub time: u32,
+    pub energy: u32,
+}
+
+// The form check of a label file beside a network file: the first number that one of them is refused by, or 0.
+#[no_mangle]
+pub extern "C" fn measured_form(net: &[u8], labels: &[u8]) -> u32
+    ensures { λ r. ⌜ FormNumber (now (net .entry)) (now (labels .entry)) r ⌝ }
+{
+    let number = net_number(net);
+    if number != 0 {
+        return number;
+    }
+    let mut depths: [u32; 1024] = [0; 1024];
+    let mut starts: [u32; 1024] = [0; 1024];
+    form_beside(net, labels, &mut depths, &mut starts)
+}
+
+// Covering. The caller in Rust meets what is required: bench/ makes its lists of rising energies and falling times up to
+// 2,147,483,647, of one length each, takes the arc's figures up to 65,535, and lends a mark for each entry.
+#[no_mangle]
+pub extern "C" fn measured_cover(
+    times: &[u32],
+    energies: &[u32],
+    arc_time: u32,
+    arc_energy: u32,
+    rest_times: &[u32],
+    rest_energies: &[u32],
+    marks: &mut [u8],
+) -> bool
+    requires { ⌜ IsList 2147483647 (now times) (now energies) ⌝ }
+    requires { ⌜ IsList 2147483647 (now «rest_times») (now «rest_energies») ⌝ }
+    requires { ⌜ «arc_time» ≤ 65535 ⌝ }
+    requires { ⌜ «arc_energy» ≤ 65535 ⌝ }
+    requires { ⌜ length (now times) ≤ length (now marks) ⌝ }
+    ensures { λ r. ⌜ Covering (now (times .entry)) (now (energies .entry)) (now («rest_times» .entry)) (now («rest_energies» .entry)) (pair «arc_time» «arc_energy») (now (marks .entry)) (now (marks .exit)) r ⌝ }
+{
+    cover(
+        times,
+        energies,
+        Seconds(arc_time),
+        Energy(arc_energy),
+        rest_times,
+        rest_energies,
+        marks,
+    )
+}
+
+// Join, for all inputs.
+#[no_mangle]
+pub extern "C" fn measured_join(
+    times: &[u32],
+    energies: &[u32],
+    more_times: &[u32],
+    more_energies: &[u32],
+    out_times: &mut [u32],
+    out_energies: &mut [u32],
+) -> MeasuredCount
+    ensures { λ r.
+        ⌜
+        Join (now (times .entry)) (now (energies .entry)) (now («more_times» .entry)) (now («more_energies» .entry))
+        (now («out_times» .entry))
+        (now («out_energies» .entry))
+        (r .number)
+        (r .count)
+        (now («out_times» .exit))
+        (now («out_energies» .exit))
+        ⌝ }
+{
+    match join(
+        times,
+        energies,
+        more_times,
+        more_energies,
+        out_times,
+        out_energies,
+    ) {
+        JoinAnswer::Joined(count) => MeasuredCount {
+            number: 0,
+            count: count,
+        },
+        JoinAnswer::LengthsDiffer => MeasuredCount {
+            number: 41,
+            count: 0,
+        },
+        JoinAnswer::IllFormed => MeasuredCount {
+            number: 42,
+            count: 0,
+        },
+        JoinAnswer::NoRoom => MeasuredCount {
+            number: 24,
+            count: 0,
+        },
+    }
+}
+
+// Limited join, for all inputs.
+#[no_mangle]
+pub extern "C" fn measured_limited_join(
+    times: &[u32],
+    energies: &[u32],
+    more_times: &[u32],
+    more_energies: &[u32],
+    limit: u32,
+) -> MeasuredBest
+    ensures { λ r.
+        ⌜
+        LimitedJoin
+        (now (times .entry))
+        (now (energies .entry))
+        (now («more_times» .entry))
+        (now («more_energies» .entry))
+        limit
+        (r .number)
+        (r .time)
+        (r .energy)
+        ⌝ }
+{
+    match limited_join(times, energies, more_times, more_energies, limit) {
+        SumAnswer::Found(time, units) => MeasuredBest {
+            number: 0,
+            time: time.0,
+            energy: units.0,
+        },
+        SumAnswer::LengthsDiffer => MeasuredBest {
+            number: 41,
+            time: 0,
+            energy: 0,
+        },
+        SumAnswer::IllFormed => MeasuredBest {
+            number: 42,
+            time: 0,
+            energy: 0,
+        },
+        SumAnswer::OverLimit => MeasuredBest {
+            number: 23,
+            time: 0,
+            energy: 0,
+        },
+    }
+}
