@@ -1,0 +1,2 @@
+pub mod RouteSteps
+pub mod RouteWay

@@ -1,0 +1,26 @@
+-- The sums at the marked levels: for each marked depth, the sums of two junctions' lists for their ancestors at that depth.
+use mathlib.Core.Path.{_≡_}
+use mathlib.Core.List.{List}
+use Prim.Native.Nat.{ℕ, suc, _+_, _-_, _≤_, _<_}
+use lib.ListN.{getD}
+use Rattle.paths.specs.Weights.{energy}
+use Rattle.paths.specs.TradeOff.{IsSum}
+use Rattle.lists.specs.Entries.{Weight}
+use Rattle.files.specs.Forest.{depthOf}
+use Rattle.files.specs.Stored.{listsBefore, placeOf, listAt}
+
+-- The byte behind v's lists for its ancestors of depth k and deeper: where its list for the ancestor of depth k - 1 starts
+abbrev pub behind : List ℕ → ℕ → ℕ → ℕ
+behind s v k = placeOf s (listsBefore s v + (depthOf s v - k))
+
+-- The level is marked, and p is a sum of entries of the lists at two bytes
+pub record LevelSum (s marks : List ℕ) (level near far : ℕ) (p : Weight) : Type 0 where
+  pub marked : getD marks level 0 ≡ 1
+  pub sum : IsSum energy (listAt s near) (listAt s far) p
+
+-- p is a sum at a marked level from `low` up to below `high`
+pub record MarkedSum (s marks : List ℕ) (x y low high : ℕ) (p : Weight) : Type 0 where
+  pub level : ℕ
+  pub not-below : low ≤ level
+  pub not-above : level < high
+  pub here : LevelSum s marks level (behind s x (suc level)) (behind s y (suc level)) p
