@@ -19,6 +19,7 @@ use Rattle.network.specs.NetworkFile.{junctionsOf, roadTime, roadEnergy, networ
 use Rattle.network.specs.Roads.{otherEnd}
 use Rattle.network.specs.Fits.{NetworkFits}
 use Rattle.network.proofs.Arcs.{arc-on-map}
+use Rattle.network.proofs.RoadsAt.{other-on-map}
 use Rattle.query.specs.Steps.{StepRoad}
 use Rattle.query.specs.Written.{RouteFound}
 use Rattle.query.proofs.RouteSteps.{step-arc, step-whole, step-line, step-route}
@@ -101,31 +102,31 @@ module _ {net : List ℕ} (fits : NetworkFits net) {x y seconds units : ℕ} {me
 
   -- one junction more
   pub way-more :
-      {k next left′ rest′ : ℕ} → (here ≡ y → ⊥) → StepRoad net here y k left rest → next ≡ otherEnd net here k → next < junctionsOf net →
-      left′ ≡ left - roadTime net k → rest′ ≡ rest - roadEnergy net k →
+      {k next takes spends left′ rest′ : ℕ} → (here ≡ y → ⊥) → StepRoad net here y k left rest → next ≡ otherEnd net here k →
+      takes ≡ roadTime net k → left′ ≡ left - takes → spends ≡ roadEnergy net k → rest′ ≡ rest - spends →
       OnWay net x y seconds units (set met count here) (count + 1) next left′ rest′
   unfolding weight junctions
-  way-more {k} apart step e next-on-map f g =
-      rw (e, f, g) (
+  way-more {k} apart step e takes-is left-is spends-is rest-is =
+      rw (e, left-is, takes-is, rest-is, spends-is) (
       record {
         start-on-map = now .start-on-map;
         whole = now .whole;
-        on-map = rw (← e) next-on-map;
+        on-map = other-on-map fits here k (step .stands) (step .at-start);
         few = omega (arith, way-room);
         places = simp length-set (now .places);
         line = step-line fits (now .line) step;
         goes-on = λ ks route. rw (written-more met count here ks in-room) (now .goes-on (here ∷ ks) (step-route fits (now .line) step apart route));
-        carries = λ w spends.
+        carries = λ w spent.
             rw (written-more met count here (junctions w) in-room)
-            (now .carries (go (step-arc fits (now .line) step) w) (ap (λ q. weights energy ._⊕_ (pair (roadTime net k) (roadEnergy net k)) q) spends ∙ step-whole fits (now .line) step));
+            (now .carries (go (step-arc fits (now .line) step) w) (ap (λ q. weights energy ._⊕_ (pair (roadTime net k) (roadEnergy net k)) q) spent ∙ step-whole fits (now .line) step));
       })
     where
       in-room : count < length met
       in-room = omega (arith, way-room, now .places)
 
   -- time falls with every road
-  pub way-less : {k left′ : ℕ} → StepRoad net here y k left rest → left′ ≡ left - roadTime net k → left′ < left
-  way-less {k} step e = omega (arith, fits .takes-time k (step .stands), step .fits .time-fits, e)
+  pub way-less : {k takes left′ : ℕ} → StepRoad net here y k left rest → takes ≡ roadTime net k → left′ ≡ left - takes → left′ < left
+  way-less {k} step takes-is left-is = omega (arith, fits .takes-time k (step .stands), step .fits .time-fits, takes-is, left-is)
 
   -- at y nothing is left to spend, and y ends the route
   pub way-end : here ≡ y → RouteFound net x y (pair seconds units) (count + 1) (set met count y)

@@ -16,3 +16,6 @@ pub enum Meeting {
     At(usize),
     Nowhere,
 }
+
+pub mod reach;
+pub mod route;
