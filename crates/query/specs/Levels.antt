@@ -2,10 +2,11 @@
 use mathlib.Core.Path.{_≡_}
 use mathlib.Core.List.{List}
 use Prim.Native.Nat.{ℕ, suc, _+_, _-_, _≤_, _<_}
-use lib.ListN.{getD}
+use lib.ListN.{length, getD}
 use Rattle.paths.specs.Weights.{energy}
 use Rattle.paths.specs.TradeOff.{IsSum}
 use Rattle.lists.specs.Entries.{Weight}
+use Rattle.network.specs.NetworkFile.{junctionsOf}
 use Rattle.files.specs.Forest.{depthOf}
 use Rattle.files.specs.Stored.{listsBefore, placeOf, listAt}
 
@@ -24,3 +25,18 @@ pub record MarkedSum (s marks : List ℕ) (x y low high : ℕ) (p : Weight) : Ty
   pub not-below : low ≤ level
   pub not-above : level < high
   pub here : LevelSum s marks level (behind s x (suc level)) (behind s y (suc level)) p
+
+-- l stands above x and above y: how their lists for l and for what is above l are reached
+pub record Branches (s : List ℕ) (x y l : ℕ) : Type 0 where
+  pub x-on-map : x < junctionsOf s
+  pub y-on-map : y < junctionsOf s
+  pub l-on-map : l < junctionsOf s
+  pub below-x : depthOf s l < depthOf s x
+  pub below-y : depthOf s l < depthOf s y
+
+-- Four slices with room for the longest list
+pub record Room (nearTimes nearEnergies farTimes farEnergies : List ℕ) : Type 0 where
+  pub near-times : 4095 ≤ length nearTimes
+  pub near-energies : 4095 ≤ length nearEnergies
+  pub far-times : 4095 ≤ length farTimes
+  pub far-energies : 4095 ≤ length farEnergies

@@ -2,8 +2,11 @@
 pub mod Ready
 pub mod Prepared
 pub mod Answers
+pub mod AnswerFrom
 pub mod Meeting
+pub mod Marking
 pub mod Levels
 pub mod Reach
+pub mod Searched
 pub mod Steps
 pub mod Written

@@ -17,5 +17,7 @@ pub enum Meeting {
     Nowhere,
 }
 
+pub mod hoplinks;
+pub mod meet;
 pub mod reach;
 pub mod route;
