@@ -111,7 +111,7 @@ module _ {s : List ℕ} {at beside units from j : ℕ} (now : Down s at beside u
 
 -- ---- One list
 
-module _ {s : List ℕ} {at seconds units j : ℕ} (fits : ListFits s at) (fitting : FittingFrom s at 0 units (countAt s at) j) where
+module _ {s : List ℕ} {at seconds units from j : ℕ} (fits : ListFits s at) (from-is : from ≡ countAt s at) (fitting : FittingFrom s at 0 units from j) where
   -- no entry fits: none covers the pair
   pub list-none : j ≡ 0 → Decides (HasWithin (EntryOf (listAt s at)) (pair seconds units)) false
   list-none e =
@@ -120,7 +120,7 @@ module _ {s : List ℕ} {at seconds units j : ℕ} (fits : ListFits s at) (fitti
         fails = λ q some.
             let z = member-stands (entry s at) (countAt s at) (some .among .member) in
             let spends : spent energy (some .one) ≡ energyAt s at (z .place) = ap (spent energy) (z .is) in
-            omega (arith, fitting .over (z .place) (omega arith) (z .below), some .no-larger .0);
+            omega (arith, fitting .over (z .place) (omega arith) (omega (arith, z .below)), some .no-larger .0);
       }
 
   -- the last entry that fits has the least time of them
@@ -145,7 +145,7 @@ module _ {s : List ℕ} {at seconds units j : ℕ} (fits : ListFits s at) (fitti
       }
     where
       pick : seconds < last → (k : ℕ) → k < countAt s at → energyAt s at k ≤ units → timeAt s at k ≤ seconds → Dec (j ≤ k) → ⊥
-      pick late k below in-units in-time (yes h) = omega (arith, fitting .over k h below)
+      pick late k below in-units in-time (yes h) = omega (arith, fitting .over k h (omega arith))
       pick late k below in-units in-time (no h) = omega (arith, times-fall fits k (j - 1) (omega arith) (omega (arith, fitting .in-range)), last-is)
 
 -- ---- Two lists
@@ -256,6 +256,10 @@ pairing-end {s} {near = near} {far = far} now h asked q here small =
 
 -- ---- Level by level
 
+-- the level that a turn of the loop goes to
+pub level-up : {left : ℕ} → 0 < left → left ≡ suc (left - 1)
+level-up h = omega arith
+
 -- At the marked levels from `left` on no sum takes so little, and the places stand at the lists of the next level up
 pub record LevelSearch (s marks : List ℕ) (x y high seconds units left near far : ℕ) : Type 0 where
   pub few : left ≤ high
@@ -331,10 +335,10 @@ module _ {s marks : List ℕ} {x y l seconds units left level near far : ℕ}
 
 -- no level is left
 pub levels-end :
-    {s marks : List ℕ} {x y high seconds units left near far : ℕ} → LevelSearch s marks x y high seconds units left near far → left ≤ 0 →
-    Decides (HasWithin (MarkedSum s marks x y 0 high) (pair seconds units)) false
-levels-end {s} {marks} {x} {y} {high} {seconds} {units} {left} now h =
-    record { holds = λ q. not-both q; fails = λ q z. now .none (z .one) (rw none-left (z .among)) (z .no-larger) }
+    {s marks : List ℕ} {x y high seconds units left near far : ℕ} {answer : Bool} → LevelSearch s marks x y high seconds units left near far → left ≤ 0 →
+    answer ≡ false → Decides (HasWithin (MarkedSum s marks x y 0 high) (pair seconds units)) answer
+levels-end {s} {marks} {x} {y} {high} {seconds} {units} {left} now h e =
+    record { holds = λ q. not-both (sym e ∙ q); fails = λ q z. now .none (z .one) (rw none-left (z .among)) (z .no-larger) }
   where
     none-left : left ≡ 0
     none-left = omega arith

@@ -1,28 +1,21 @@
+-- All entries are asked exactly at a marked level.
+use Rattle.query.proofs.Searching.{count-stands, asked-none, asked-all}
 use borrow.Author.Needs.{needs}
 use Rattle.query.proofs.reach.asked.Statement.{statement}
 use Rattle.query.proofs.reach.asked.Tie as tie
-use Rattle.query.proofs.reach.asked.Reads as reads
-use Rattle.query.proofs.reach.asked.Lts as lts
-use Rattle.network.proofs.bytes.u16_at.Reads as u16-at-reads
-use Rattle.query.proofs.reach.wide.Reads as wide-reads
 
--- src/reach.rt:73:8
 element-copy-out-if1 : tie.Need-element-copy-out-if1
 element-copy-out-if1 c = search needs
 
--- src/reach.rt:74:9
 returns : tie.Need-returns
 returns c = search needs
 
--- src/reach.rt:76:10
 u16-at-requires : tie.Need-u16-at-requires
-u16-at-requires c κs = ?
+u16-at-requires c κs = count-stands (c .before .before .before .pre .0)
 
--- src/reach.rt:76:5
 wide-requires : tie.Need-wide-requires
 wide-requires c κs = search needs
 
--- src/reach.rt:68:1
 returns-2 : tie.Need-returns-2
 returns-2 c = search needs
 

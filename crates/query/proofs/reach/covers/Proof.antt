@@ -1,39 +1,49 @@
+-- Without an entry that fits there is no sum; else the sum of the two times decides.
+use native.Mathlib.Omega.{arith}
+use Prim.Native.Nat.{_-_}
+use Rattle.query.proofs.Searching.{entry-inside, covers-none, covers-decides}
 use borrow.Author.Needs.{needs}
 use Rattle.query.proofs.reach.covers.Statement.{statement}
 use Rattle.query.proofs.reach.covers.Tie as tie
-use Rattle.query.proofs.reach.covers.Reads as reads
-use Rattle.query.proofs.reach.covers.Lts as lts
-use Rattle.files.proofs.stored.time_at.Reads as time-at-reads
-use Rattle.paths.proofs.seconds.Seconds.at_most.Reads as at-most-reads
-use Rattle.paths.proofs.seconds.Seconds.plus.Reads as plus-reads
 
--- src/reach.rt:86:9
 returns : tie.Need-returns
-returns c = ?
+returns c = covers-none (c .if1 .taken)
 
--- src/reach.rt:88:9
 time-at-requires : tie.Need-time-at-requires
-time-at-requires c κs = ?
+time-at-requires c κs =
+    let pre = c .before .before .pre in
+    omega (arith, entry-inside (pre .0 .0) (pre .1 .0))
 
--- src/reach.rt:89:39
 sub-time-at : tie.Need-sub-time-at
 sub-time-at c = search needs
 
--- src/reach.rt:89:9
 time-at-requires-2 : tie.Need-time-at-requires-2
-time-at-requires-2 c κs = ?
+time-at-requires-2 c κs =
+    let start = c .before .before .before in
+    let pre = start .pre in
+    omega (arith, entry-inside (pre .0 .1) {j = start .args .j - 1} (omega (arith, pre .1 .1, c .before .if1 .left)))
 
--- src/reach.rt:90:9
 plus-requires : tie.Need-plus-requires
-plus-requires c κs = ?
+plus-requires c κs =
+    let start = c .before .before .before .before in
+    let pre = start .pre in
+    omega (
+      arith,
+      c .before .time-at .ensures,
+      c .time-at2 .ensures,
+      pre .0 .0 .time-fits (start .args .i) (pre .1 .0) .1,
+      pre .0 .1 .time-fits (start .args .j - 1) (omega (arith, pre .1 .1, c .before .before .if1 .left)) .1,
+    )
 
--- src/reach.rt:91:5
 at-most-requires : tie.Need-at-most-requires
 at-most-requires c κs = search needs
 
--- src/reach.rt:80:1
 returns-2 : tie.Need-returns-2
-returns-2 c = ?
+returns-2 c =
+    let sum = c .before in
+    let second = sum .before in
+    let first = second .before in
+    covers-decides (first .before .if1 .left) (first .time-at .ensures) (second .time-at2 .ensures) (sum .plus .ensures) (c .at-most .ensures)
 
 pub covers-spec : {M : Type 1} → statement M
 covers-spec =
