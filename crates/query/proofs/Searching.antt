@@ -10,22 +10,28 @@ use lib.Dec.{leb}
 use lib.ListN.{length, getD}
 use borrow.Author.Tests.{leb-true, leb-false}
 use Rattle.paths.specs.Weights.{weights, energy, pair, time, spent}
-use Rattle.paths.specs.Network.{weight}
-use Rattle.paths.specs.TradeOff.{IsSum}
+use Rattle.paths.specs.Network.{stay, weight}
+use Rattle.paths.specs.TradeOff.{IsTradeOff, IsSum}
+use Rattle.paths.specs.Forest.{Above, Common}
+use Rattle.paths.proofs.Crossing.{apart-without-common}
+use Rattle.network.specs.NetworkFile.{networkOf}
 use Rattle.lists.specs.Entries.{Weight}
 use Rattle.lists.specs.Cover.{Decides}
-use Rattle.files.specs.LabelFile.{countAt, timeAt, energyAt, listEnd}
+use Rattle.files.specs.LabelFile.{parentsOf, countAt, timeAt, energyAt, listEnd}
 use Rattle.files.specs.Forest.{depthOf}
-use Rattle.files.specs.Stored.{listAt}
+use Rattle.files.specs.Stored.{listAt, stored}
 use Rattle.files.specs.Formed.{Formed, ListFits}
 use Rattle.files.specs.Scanned.{FoundList}
 use Rattle.files.proofs.Tabulate.{Stands, member-stands, tabulate-member}
+use Rattle.exact.proofs.Exactness.{parents-forest, roads-joined}
+use Rattle.query.specs.Prepared.{Prepared}
+use Rattle.query.specs.Meeting.{MeetsAt, HopMarks}
 use Rattle.query.specs.AnswerFrom.{EntryOf}
 use Rattle.query.specs.Levels.{behind, LevelSum, MarkedSum, Branches}
 use Rattle.query.specs.Reach.{PathWithin}
 use Rattle.query.specs.Searched.{HasWithin, FittingFrom, CoversAt, Asked}
 use Rattle.query.proofs.MarkedSums.{level-place, level-next, level-fits}
-use Rattle.query.proofs.WholeAnswers.{StandsFor}
+use Rattle.query.proofs.WholeAnswers.{StandsFor, proper, tradeOff-stands, stored-up, stored-down, marked-stands}
 
 -- false is not true
 not-both : {A : Type 0} → _≡_ {A = Bool} false true → A
@@ -363,3 +369,42 @@ stands-decides {p = p} stands decides =
           let z = stands .below (path .walk) in
           decides .fails q (record { one = z .one; among = z .among; no-larger = (omega (arith, z .no-larger .0, path .no-larger .0), omega (arith, z .no-larger .1, path .no-larger .1)) });
     }
+
+-- a junction reaches itself within anything
+pub reach-itself : {net : List ℕ} {x y : ℕ} {p : Weight} → x ≡ y → Decides (PathWithin net x y p) true
+unfolding weight
+reach-itself e = found-yes (rw (← e) (record { walk = stay; no-larger = (omega arith, omega arith) }))
+
+-- what was found is the stored list
+found-right :
+    {net s : List ℕ} {x y v u at : ℕ} → FoundList s v u at → IsTradeOff (networkOf net) x y (stored s v u) → IsTradeOff (networkOf net) x y (listAt s at)
+unfolding stored
+found-right found right = rw (found .place) right
+
+module _ {net s depths starts : List ℕ} (prepared : Prepared net s depths starts) {x y : ℕ} {p : Weight} where
+  -- junctions of different trees
+  pub reach-apart : ((u : ℕ) → Common (parentsOf s) x y u → ⊥) → Decides (PathWithin net x y p) false
+  reach-apart none =
+      record {
+        holds = λ q. not-both q;
+        fails = λ q path. apart-without-common (parentsOf s) (roads-joined (prepared .beside)) (parents-forest (prepared .beside)) none (path .walk);
+      }
+
+  module _ {answer : Bool} where
+    -- a junction and one above it, either way round
+    pub reach-up :
+        {at : ℕ} → Above (parentsOf s) y x → FoundList s x y at → Decides (HasWithin (EntryOf (listAt s at)) p) answer → Decides (PathWithin net x y p) answer
+    reach-up above found decides = stands-decides (tradeOff-stands (found-right found (stored-up prepared above))) decides
+
+    pub reach-down :
+        {at : ℕ} → Above (parentsOf s) x y → FoundList s y x at → Decides (HasWithin (EntryOf (listAt s at)) p) answer → Decides (PathWithin net x y p) answer
+    reach-down above found decides = stands-decides (tradeOff-stands (found-right found (stored-down prepared above))) decides
+
+    -- two branches
+    pub reach-across :
+        {l : ℕ} {marks : List ℕ} → MeetsAt s x y l → (l ≡ x → ⊥) → (l ≡ y → ⊥) → HopMarks net s l marks →
+        Decides (HasWithin (MarkedSum s marks x y 0 (suc (depthOf s l))) p) answer → Decides (PathWithin net x y p) answer
+    reach-across meets not-x not-y hops decides =
+        stands-decides
+        (marked-stands prepared (proper not-x (meets .deepest .common .of-start)) (proper not-y (meets .deepest .common .of-finish)) (meets .deepest) (meets .on-map) hops)
+        decides
