@@ -1,6 +1,9 @@
 -- What a query on an accepted set answers. Read in this order.
 pub mod Ready
+pub mod Prepared
 pub mod Answers
+pub mod AnswerFrom
 pub mod Meeting
+pub mod Levels
 pub mod Reach
 pub mod Written

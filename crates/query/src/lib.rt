@@ -16,3 +16,9 @@ pub enum Meeting {
     At(usize),
     Nowhere,
 }
+
+pub mod across;
+pub mod direct;
+pub mod hoplinks;
+pub mod limited;
+pub mod meet;

@@ -1,0 +1,6 @@
+-- Why the answers are right. Read in this order.
+pub mod AnswersFrom
+pub mod LoadedLists
+pub mod MarkedSums
+pub mod WholeAnswers
+pub mod AnswersUnique
