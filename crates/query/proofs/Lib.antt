@@ -1,4 +1,6 @@
--- Why the answers are right. Read in this order.
+-- Why the queries answer what they are to answer. Read in this order.
+pub mod Branches
+pub mod Marks
 pub mod AnswersFrom
 pub mod LoadedLists
 pub mod MarkedSums

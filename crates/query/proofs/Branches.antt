@@ -1,0 +1,172 @@
+-- Two junctions have the common ancestors of what stands above them at one depth, so their branches are climbed side by side.
+-- In this order: no step, and a depth read; ancestors by depth; the climb side by side, from its start to either end.
+use mathlib.Core.Path.{_≡_, sym, ap}
+use mathlib.Core.Logic.{inl, inr, ⊎-elim}
+use mathlib.Core.List.{List}
+use Prim.Native.Nat.{ℕ, _+_, _-_, _*_, _≤_, _<_}
+use native.Mathlib.Omega.{arith}
+use lib.ListN.{getD}
+use Rattle.paths.specs.Forest.{Above, parent-is, Ancestor, Related, Common}
+use Rattle.paths.proofs.Forest.{ancestor-trans, ancestor-of-parent, ancestors-related}
+use Rattle.network.specs.NetworkFile.{junctionsOf}
+use Rattle.network.specs.Reads.{ReadU16}
+use Rattle.files.specs.LabelFile.{parentAt, noParent, parentsOf}
+use Rattle.files.specs.Forest.{depthOf, ancestorOf}
+use Rattle.files.specs.Formed.{ParentsFit, DepthsFilled}
+use Rattle.files.specs.ParentsRead.{AncestorRead}
+use Rattle.files.proofs.Chains.{ancestor-none, depth-some, one-up, climbed}
+use Rattle.files.proofs.Forest.{above-shallower, parents-child, ancestor-is-up}
+use Rattle.query.specs.Meeting.{MeetsAt}
+
+-- ---- No step, and a depth read
+
+-- a junction that is no deeper stays where it is
+pub no-climb : (s : List ℕ) (v from to : ℕ) → from ≤ to → ancestorOf s v (from - to) ≡ v
+no-climb s v from to h = let none : from - to ≡ 0 = omega arith in rw none (ancestor-none s v)
+
+pub raised-none : {s : List ℕ} {v from to : ℕ} → v < junctionsOf s → from ≤ to → AncestorRead s v (from - to) v
+raised-none {s} {v} {from} {to} below h = record { is = sym (no-climb s v from to h); on-map = below }
+
+-- the table has the depth
+pub depth-read : {s depths : List ℕ} {v : ℕ} → DepthsFilled s depths → v < junctionsOf s → getD depths v 0 ≡ depthOf s v
+depth-read {v = v} filled below = filled .depth v below
+
+-- ---- Ancestors by depth
+
+-- u stands k steps above v
+record Raised (s : List ℕ) (v k u : ℕ) : Type 0 where
+  up : Ancestor (parentsOf s) u v
+  depth : depthOf s u + k ≡ depthOf s v
+
+module _ {s : List ℕ} (fit : ParentsFit s) where
+  -- where a climb by k steps leads
+  raised-up : {v k u : ℕ} → v < junctionsOf s → k ≤ depthOf s v → AncestorRead s v k u → Raised s v k u
+  raised-up {v} {k} below h read =
+      rw (read .is) (record { up = ancestor-is-up fit k v below h; depth = climbed fit k v below h .depth })
+
+  -- an ancestor is no deeper, and of the same depth only the junction itself
+  pub no-deeper : {u v : ℕ} → Ancestor (parentsOf s) u v → depthOf s u ≤ depthOf s v
+  no-deeper (inl e) = omega (arith, ap (depthOf s) e)
+  no-deeper (inr above) = omega (arith, above-shallower s (fit .ends) above)
+
+  pub level-same : {u v : ℕ} → Ancestor (parentsOf s) u v → depthOf s u ≡ depthOf s v → u ≡ v
+  level-same (inl e) level = e
+  level-same (inr above) level = absurd (omega (arith, above-shallower s (fit .ends) above))
+
+  -- of two related junctions the one that is no deeper is the ancestor
+  pub shallower-ancestor : {u v : ℕ} → Related (parentsOf s) u v → depthOf s u ≤ depthOf s v → Ancestor (parentsOf s) u v
+  shallower-ancestor (inl up) h = up
+  shallower-ancestor (inr down) h = inl (sym (level-same down (omega (arith, no-deeper down))))
+
+  -- and a proper one where it is less deep
+  pub strictly-above : {u v : ℕ} → Ancestor (parentsOf s) u v → depthOf s u < depthOf s v → Above (parentsOf s) u v
+  strictly-above (inl e) h = absurd (omega (arith, ap (depthOf s) e))
+  strictly-above (inr above) h = above
+
+  -- so it is with two ancestors of one junction
+  pub stays-above : {u a v : ℕ} → Ancestor (parentsOf s) u v → Ancestor (parentsOf s) a v → depthOf s u ≤ depthOf s a → Ancestor (parentsOf s) u a
+  stays-above h k shallow = shallower-ancestor (ancestors-related h k) shallow
+
+  -- what is above two different junctions of one depth is a proper ancestor
+  level-proper : {a b u : ℕ} → depthOf s a ≡ depthOf s b → (a ≡ b → ⊥) → Ancestor (parentsOf s) u a → Ancestor (parentsOf s) u b → Above (parentsOf s) u a
+  level-proper level apart h k = ⊎-elim (λ e. absurd (apart (level-same (rw e at k) level))) (λ above. above) h
+
+-- ---- The climb side by side
+
+-- left and right stand above x and y at one depth, and what is common to x and y is common to them
+pub record SideBySide (s : List ℕ) (x y left right : ℕ) : Type 0 where
+  pub left-on-map : left < junctionsOf s
+  pub right-on-map : right < junctionsOf s
+  pub level : depthOf s left ≡ depthOf s right
+  pub left-up : Ancestor (parentsOf s) left x
+  pub right-up : Ancestor (parentsOf s) right y
+  pub kept : (u : ℕ) → Common (parentsOf s) x y u → Common (parentsOf s) left right u
+
+module _ {s depths : List ℕ} (fit : ParentsFit s) (filled : DepthsFilled s depths) where
+  -- the deeper of the two was raised to the depth of the other
+  pub side-start :
+      {x y left right : ℕ} →
+      x < junctionsOf s →
+      y < junctionsOf s →
+      AncestorRead s x (getD depths x 0 - getD depths y 0) left →
+      AncestorRead s y (getD depths y 0 - getD depths x 0) right →
+      SideBySide s x y left right
+  side-start {x} {y} {left} {right} x-below y-below left-read right-read =
+      record {
+        left-on-map = left-read .on-map;
+        right-on-map = right-read .on-map;
+        level = omega (arith, x-depth, y-depth, from-x .depth, from-y .depth);
+        left-up = from-x .up;
+        right-up = from-y .up;
+        kept = λ u c.
+            record {
+              of-start = stays-above fit (c .of-start) (from-x .up) (omega (arith, x-depth, y-depth, from-x .depth, no-deeper fit (c .of-start), no-deeper fit (c .of-finish)));
+              of-finish = stays-above fit (c .of-finish) (from-y .up) (omega (arith, x-depth, y-depth, from-y .depth, no-deeper fit (c .of-start), no-deeper fit (c .of-finish)));
+            };
+      }
+    where
+      x-depth : getD depths x 0 ≡ depthOf s x
+      x-depth = filled .depth x x-below
+
+      y-depth : getD depths y 0 ≡ depthOf s y
+      y-depth = filled .depth y y-below
+
+      from-x : Raised s x (getD depths x 0 - getD depths y 0) left
+      from-x = raised-up fit x-below (omega (arith, x-depth)) left-read
+
+      from-y : Raised s y (getD depths y 0 - getD depths x 0) right
+      from-y = raised-up fit y-below (omega (arith, y-depth)) right-read
+
+  module _ {x y left right : ℕ} (now : SideBySide s x y left right) where
+    -- met: what is common to x and y is above the place where they meet
+    pub side-met : left ≡ right → MeetsAt s x y left
+    side-met e =
+        record {
+          on-map = now .left-on-map;
+          deepest = record { common = record { of-start = now .left-up; of-finish = rw e (now .right-up) }; below-all = λ u c. now .kept u c .of-start };
+        }
+
+    module _ (apart : left ≡ right → ⊥) where
+      -- not met: what is common is above both
+      above-left : (u : ℕ) → Common (parentsOf s) x y u → Above (parentsOf s) u left
+      above-left u c = let k = now .kept u c in level-proper fit (now .level) apart (k .of-start) (k .of-finish)
+
+      above-right : (u : ℕ) → Common (parentsOf s) x y u → Above (parentsOf s) u right
+      above-right u c = let k = now .kept u c in level-proper fit (sym (now .level)) (λ e. apart (sym e)) (k .of-finish) (k .of-start)
+
+      -- different roots have nothing above them
+      pub side-roots : getD depths left 0 ≡ 0 → (u : ℕ) → Common (parentsOf s) x y u → ⊥
+      side-roots root u c = omega (arith, filled .depth left (now .left-on-map), above-shallower s (fit .ends) (above-left u c))
+
+      module _ (deep : getD depths left 0 ≡ 0 → ⊥) {up-left : ℕ} (left-is : ReadU16 s (16 + 2 * left) up-left) where
+        left-deep : 1 ≤ depthOf s left
+        left-deep = omega (arith, deep, filled .depth left (now .left-on-map))
+
+        -- one step less is left to the root
+        pub side-less : depthOf s up-left < depthOf s left
+        side-less = rw (left-is .is) (omega (arith, one-up fit left (now .left-on-map) (depth-some s left left-deep) .depth))
+
+        -- both climb a step
+        pub side-more : {up-right : ℕ} → ReadU16 s (16 + 2 * right) up-right → SideBySide s x y up-left up-right
+        side-more {up-right} right-is = rw (left-is .is, right-is .is) both
+          where
+            left-child : parentAt s left ≡ noParent → ⊥
+            left-child = depth-some s left left-deep
+
+            right-child : parentAt s right ≡ noParent → ⊥
+            right-child = depth-some s right (omega (arith, left-deep, now .level))
+
+            both : SideBySide s x y (parentAt s left) (parentAt s right)
+            both =
+                let from-left = parents-child s left (now .left-on-map) left-child in
+                let from-right = parents-child s right (now .right-on-map) right-child in
+                let left-step = one-up fit left (now .left-on-map) left-child in
+                let right-step = one-up fit right (now .right-on-map) right-child in
+                record {
+                  left-on-map = left-step .on-map;
+                  right-on-map = right-step .on-map;
+                  level = omega (arith, now .level, left-step .depth, right-step .depth);
+                  left-up = ancestor-trans (inr (parent-is from-left)) (now .left-up);
+                  right-up = ancestor-trans (inr (parent-is from-right)) (now .right-up);
+                  kept = λ u c. record { of-start = ancestor-of-parent from-left (above-left u c); of-finish = ancestor-of-parent from-right (above-right u c) };
+                }

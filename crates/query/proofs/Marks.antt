@@ -1,0 +1,227 @@
+-- The marks of the hoplinks: what a road marks, and how the marks fill, road by road.
+-- In this order: a road between two junctions; road k of the file; the marks of the roads below k, at the start, with one road more, and at the end.
+use mathlib.Core.Path.{_≡_, refl, sym, ap, _∙_}
+use mathlib.Core.Logic.{_⊎_, inl, inr, ⊎-elim}
+use mathlib.Core.Bool.{Bool, true, false, false≢true}
+use mathlib.Core.List.{List}
+use Prim.Native.Nat.{ℕ, _+_, _-_, _*_, _≤_, _<_}
+use native.Mathlib.Decide.{ℕ-discrete}
+use native.Mathlib.Omega.{arith}
+use lib.ListN.{length, getD, set, length-set}
+use lib.Seq.{getD-set-same, getD-set-other}
+use Rattle.paths.specs.Weights.{weights, energy, pair}
+use Rattle.paths.specs.Forest.{Above, Ancestor, Related, WorkingSet, itself, crossing}
+use Rattle.refusals.proofs.Order.{every-holds}
+use Rattle.network.specs.Reads.{ReadU16}
+use Rattle.network.specs.NetworkFile.{junctionsOf, roadsOf, roadTime, roadEnergy, RoadArc, networkOf}
+use Rattle.network.specs.RoadsRead.{FilledBelow}
+use Rattle.network.proofs.Arcs.{two-way}
+use Rattle.files.specs.LabelFile.{parentsOf}
+use Rattle.files.specs.Forest.{depthOf, ancestorOf, isAncestor, roadJoins}
+use Rattle.files.specs.Formed.{ParentsFit, DepthsFilled, Beside}
+use Rattle.files.proofs.Chains.{climbed}
+use Rattle.files.proofs.Forest.{above-shallower, above-at, is-ancestor-sound, is-ancestor-complete, low-on-map, high-on-map, joined-related}
+use Rattle.query.specs.Meeting.{HopMarks}
+use Rattle.query.specs.Marking.{OneMark, OnBranch, CrossingDepth, crosses, passes-by, RoadMark}
+use Rattle.query.proofs.Branches.{no-climb, no-deeper, shallower-ancestor, strictly-above, stays-above}
+
+-- ---- A road between two junctions
+
+module _
+    {s depths : List ℕ} (fit : ParentsFit s) (filled : DepthsFilled s depths)
+    {l upper lower : ℕ} (l-below : l < junctionsOf s) (branch : OnBranch s upper lower)
+  where
+    -- their depths
+    l-depth : getD depths l 0 ≡ depthOf s l
+    l-depth = filled .depth l l-below
+
+    upper-depth : getD depths upper 0 ≡ depthOf s upper
+    upper-depth = filled .depth upper (branch .upper-on-map)
+
+    lower-depth : getD depths lower 0 ≡ depthOf s lower
+    lower-depth = filled .depth lower (branch .lower-on-map)
+
+    -- upper is no less deep than l
+    pub upper-deep : getD depths l 0 ≤ getD depths upper 0 → CrossingDepth s l upper lower (getD depths l 0)
+    upper-deep h = passes-by (λ above below. omega (arith, above-shallower s (fit .ends) above, l-depth, upper-depth)) l-depth
+
+    -- lower is less deep than l
+    pub lower-shallow : getD depths lower 0 < getD depths l 0 → CrossingDepth s l upper lower (getD depths l 0)
+    lower-shallow h = passes-by (λ above below. omega (arith, no-deeper fit below, l-depth, lower-depth)) l-depth
+
+    module _ {under : Bool} (is : under ≡ isAncestor s l lower) where
+      -- l is not above lower
+      pub lower-elsewhere : under ≡ false → CrossingDepth s l upper lower (getD depths l 0)
+      lower-elsewhere e =
+          passes-by (λ above below. false≢true (sym e ∙ (is ∙ is-ancestor-complete fit (branch .lower-on-map) below))) l-depth
+
+      -- l is between them
+      pub road-crosses : under ≡ true → getD depths upper 0 < getD depths l 0 → CrossingDepth s l upper lower (getD depths upper 0)
+      road-crosses e h = crosses (strictly-above fit (stays-above fit (inr (branch .above)) below (omega (arith, shallow))) shallow) below upper-depth
+        where
+          below : Ancestor (parentsOf s) l lower
+          below = is-ancestor-sound fit l lower (branch .lower-on-map) (sym is ∙ e)
+
+          shallow : depthOf s upper < depthOf s l
+          shallow = omega (arith, l-depth, upper-depth)
+
+-- ---- Road k of the file
+
+-- Two junctions are the other two, in their order or turned round
+abbrev SameEnds : ℕ → ℕ → ℕ → ℕ → Type 0
+SameEnds a b c d = ((a ≡ c) × (b ≡ d)) ⊎ ((a ≡ d) × (b ≡ c))
+
+-- a road has two ends
+same-road : {net : List ℕ} {a b c d k : ℕ} {w z : weights energy .Figure} → RoadArc net a b k w → RoadArc net c d k z → SameEnds a b c d
+same-road p q =
+    ⊎-elim
+    (λ e. ⊎-elim (λ f. inl (e .0 ∙ sym (f .0), e .1 ∙ sym (f .1))) (λ f. inr (e .0 ∙ sym (f .1), e .1 ∙ sym (f .0))) (q .ends))
+    (λ e. ⊎-elim (λ f. inr (e .0 ∙ sym (f .1), e .1 ∙ sym (f .0))) (λ f. inl (e .0 ∙ sym (f .0), e .1 ∙ sym (f .1))) (q .ends))
+    (p .ends)
+
+module _ {net s : List ℕ} (fit : ParentsFit s) {l upper lower k : ℕ} {w : weights energy .Figure} (arc : RoadArc net upper lower k w) (branch : OnBranch s upper lower) where
+  -- a road that ends below l and starts above it starts at its upper end
+  starts-up : {h end : ℕ} {z : weights energy .Figure} → Above (parentsOf s) h l → Ancestor (parentsOf s) l end → RoadArc net h end k z → (h ≡ upper) × (end ≡ lower)
+  starts-up {h} {end} above below other = ⊎-elim (λ e. e) (λ e. absurd (turned (rw (e .0) at above) (rw (e .1) at below))) (same-road other arc)
+    where
+      turned : Above (parentsOf s) lower l → Ancestor (parentsOf s) l upper → ⊥
+      turned p q = omega (arith, above-shallower s (fit .ends) p, no-deeper fit q, above-shallower s (fit .ends) (branch .above))
+
+  -- the depth that it marks
+  crossing-marks : {r : ℕ} → CrossingDepth s l upper lower r → RoadMark net s l k r
+  crossing-marks {r} (crosses above below is) =
+      record {
+        up = omega (arith, above-shallower s (fit .ends) above);
+        right = rw (is, above-at fit above .is) (crossing above (record { end = lower; below = below; number = k; weighs = w; arc = inl arc }));
+        all = λ p q other. is ∙ ap (depthOf s) (sym (starts-up p q other .0));
+      }
+  crossing-marks {r} (passes-by none is) =
+      record {
+        up = omega arith;
+        right = itself (no-climb s l (depthOf s l) r (omega arith));
+        all = λ p q other. let e = starts-up p q other in absurd (none (rw (e .0) at p) (rw (e .1) at q));
+      }
+
+module _
+    {net s depths : List ℕ} (beside : Beside net s) (filled : DepthsFilled s depths) {k low high : ℕ}
+    (stands : k < roadsOf net) (low-is : ReadU16 net (16 + 8 * k) low) (high-is : ReadU16 net (18 + 8 * k) high)
+  where
+    fit : ParentsFit s
+    fit = beside .labels .parents
+
+    low-below : low < junctionsOf s
+    low-below = low-on-map net s (beside .network) (beside .one-map) k stands (low-is .is)
+
+    high-below : high < junctionsOf s
+    high-below = high-on-map net s (beside .network) (beside .one-map) k stands (high-is .is)
+
+    related : Related (parentsOf s) low high
+    related = rw (low-is .is, high-is .is) (joined-related fit (beside .network) (beside .one-map) k stands (every-holds (roadJoins net s) (roadsOf net) (beside .joins) stands))
+
+    forth : RoadArc net low high k (pair (roadTime net k) (roadEnergy net k))
+    forth = record { stands = stands; ends = inl (low-is .is, high-is .is); weighs = refl; slow = beside .network .takes-time k stands }
+
+    -- the end that is less deep is above the other
+    pub low-branch : getD depths low 0 < getD depths high 0 → OnBranch s low high
+    low-branch h =
+        record { upper-on-map = low-below; lower-on-map = high-below; above = strictly-above fit (shallower-ancestor fit related (omega (arith, shallow))) shallow }
+      where
+        shallow : depthOf s low < depthOf s high
+        shallow = omega (arith, filled .depth low low-below, filled .depth high high-below)
+
+    pub high-branch : getD depths high 0 ≤ getD depths low 0 → OnBranch s high low
+    high-branch h = record { upper-on-map = high-below; lower-on-map = low-below; above = ⊎-elim (λ e. absurd (apart e)) (λ above. above) up }
+      where
+        apart : high ≡ low → ⊥
+        apart e = omega (arith, low-is .is, high-is .is, beside .network .low-below-high k stands)
+
+        up : Ancestor (parentsOf s) high low
+        up = shallower-ancestor fit (⊎-elim inr inl related) (omega (arith, filled .depth low low-below, filled .depth high high-below))
+
+    -- the depth that a branch marks, road k marks
+    pub low-marks : {l r : ℕ} → getD depths low 0 < getD depths high 0 → CrossingDepth s l low high r → RoadMark net s l k r
+    low-marks h c = crossing-marks fit forth (low-branch h) c
+
+    pub high-marks : {l r : ℕ} → getD depths high 0 ≤ getD depths low 0 → CrossingDepth s l high low r → RoadMark net s l k r
+    high-marks h c = crossing-marks fit (two-way forth) (high-branch h) c
+
+-- ---- The marks of the roads below k
+
+-- l is marked, what is marked is in its working set, and what the roads below k put there is marked
+pub record Marking (net s : List ℕ) (l : ℕ) (marks : List ℕ) (k : ℕ) : Type 0 where
+  pub places : length marks ≡ 1024
+  pub own : getD marks (depthOf s l) 0 ≡ 1
+  pub right : (j : ℕ) → j ≤ depthOf s l → getD marks j 0 ≡ 1 → WorkingSet (networkOf net) (parentsOf s) l (ancestorOf s l (depthOf s l - j))
+  pub all : {h end i : ℕ} {w : weights energy .Figure} → i < k → Above (parentsOf s) h l → Ancestor (parentsOf s) l end → RoadArc net h end i w → getD marks (depthOf s h) 0 ≡ 1
+
+-- the places below the last are clear, and the last is marked
+pub one-mark : {marks : List ℕ} {own k : ℕ} → FilledBelow marks 0 k → own ≤ k → own < 1024 → OneMark (set marks own 1) own
+one-mark {marks} {own} {k} cleared all inside =
+    record {
+      places = simp length-set (cleared .places);
+      others = λ j below. getD-set-other marks own j 1 0 (λ e. omega arith) ∙ cleared .each j (omega arith);
+      last = getD-set-same marks own 1 0 (omega (arith, cleared .places));
+    }
+
+-- no road yet: l alone
+pub marking-start : {net s marks : List ℕ} {l own : ℕ} → own ≡ depthOf s l → OneMark marks own → Marking net s l marks 0
+marking-start {net} {s} {marks} {l} {own} is one =
+    record { places = one .places; own = rw (← is) (one .last); right = λ j h e. pick j h e (ℕ-discrete j own); all = λ below p q arc. absurd (omega arith) }
+  where
+    pick : (j : ℕ) → j ≤ depthOf s l → getD marks j 0 ≡ 1 → Dec (j ≡ own) → WorkingSet (networkOf net) (parentsOf s) l (ancestorOf s l (depthOf s l - j))
+    pick j h e (yes same) = itself (no-climb s l (depthOf s l) j (omega arith))
+    pick j h e (no apart) = absurd (omega (arith, one .others j (omega arith)))
+
+-- a mark stays
+mark-stays : (marks : List ℕ) (at j : ℕ) → at < length marks → getD marks j 0 ≡ 1 → getD (set marks at 1) j 0 ≡ 1
+mark-stays marks at j inside e = pick (ℕ-discrete j at)
+  where
+    pick : Dec (j ≡ at) → getD (set marks at 1) j 0 ≡ 1
+    pick (yes same) = rw same (getD-set-same marks at 1 0 inside)
+    pick (no apart) = getD-set-other marks at j 1 0 apart ∙ e
+
+module _ {net s : List ℕ} (fit : ParentsFit s) {l : ℕ} (l-below : l < junctionsOf s) where
+  -- what a road marks has a place
+  pub mark-inside : {k r : ℕ} → RoadMark net s l k r → r < 1024
+  mark-inside mark = omega (arith, mark .up, fit .ends l l-below, fit .few-junctions)
+
+  -- one road more
+  pub marking-more : {marks : List ℕ} {k r at : ℕ} → Marking net s l marks k → RoadMark net s l k r → at ≡ r → Marking net s l (set marks at 1) (k + 1)
+  marking-more {marks} {k} {r} {at} now mark is = rw is more
+    where
+      inside : r < length marks
+      inside = omega (arith, mark-inside mark, now .places)
+
+      right : (j : ℕ) → j ≤ depthOf s l → getD (set marks r 1) j 0 ≡ 1 → Dec (j ≡ r) → WorkingSet (networkOf net) (parentsOf s) l (ancestorOf s l (depthOf s l - j))
+      right j h e (yes same) = rw same (mark .right)
+      right j h e (no apart) = now .right j h (sym (getD-set-other marks r j 1 0 apart) ∙ e)
+
+      all : {h end i : ℕ} {w : weights energy .Figure} → i < k + 1 → Above (parentsOf s) h l → Ancestor (parentsOf s) l end → RoadArc net h end i w → Dec (i ≡ k) → getD (set marks r 1) (depthOf s h) 0 ≡ 1
+      all below p q arc (yes same) = rw (← mark .all p q (rw same at arc)) (getD-set-same marks r 1 0 inside)
+      all {h} below p q arc (no apart) = mark-stays marks r (depthOf s h) inside (now .all (omega arith) p q arc)
+
+      more : Marking net s l (set marks r 1) (k + 1)
+      more =
+          record {
+            places = simp length-set (now .places);
+            own = mark-stays marks r (depthOf s l) inside (now .own);
+            right = λ j h e. right j h e (ℕ-discrete j r);
+            all = λ {h} {end} {i} {w} below p q arc. all below p q arc (ℕ-discrete i k);
+          }
+
+  -- all roads
+  pub marking-end : {marks : List ℕ} {k : ℕ} → Marking net s l marks k → roadsOf net ≤ k → HopMarks net s l marks
+  marking-end {marks} {k} now over = record { marks-length = now .places; marked = now .right; all-marked = all-marked }
+    where
+      all-marked : (j : ℕ) → j ≤ depthOf s l → WorkingSet (networkOf net) (parentsOf s) l (ancestorOf s l (depthOf s l - j)) → getD marks j 0 ≡ 1
+      all-marked j h w = rw (← depth) (found w)
+        where
+          depth : depthOf s (ancestorOf s l (depthOf s l - j)) ≡ j
+          depth = omega (arith, climbed fit (depthOf s l - j) l l-below (omega arith) .depth)
+
+          found : {u : ℕ} → WorkingSet (networkOf net) (parentsOf s) l u → getD marks (depthOf s u) 0 ≡ 1
+          found (itself e) = rw e (now .own)
+          found (crossing above into) = ⊎-elim (λ a. now .all (reached a) above (into .below) a) (λ a. now .all (reached a) above (into .below) (two-way a)) (into .arc)
+            where
+              reached : {x y i : ℕ} {z : weights energy .Figure} → RoadArc net x y i z → i < k
+              reached a = omega (arith, a .stands)
