@@ -1,60 +1,124 @@
+-- A junction and itself, two trees, one above the other, two branches: in each case the set of pairs that is searched stands for all paths.
+use native.Mathlib.Omega.{arith}
 use borrow.Author.Needs.{needs}
+use Rattle.query.proofs.WholeAnswers.{meets-at, meets-nowhere, meets-start, meets-finish, meets-above, answer-itself, answer-apart, answer-up, answer-down, answer-across}
 use Rattle.query.proofs.limited.best.Statement.{statement}
 use Rattle.query.proofs.limited.best.Tie as tie
-use Rattle.query.proofs.limited.best.Reads as reads
-use Rattle.query.proofs.limited.best.Lts as lts
-use Rattle.query.proofs.across.across.Reads as across-reads
-use Rattle.query.proofs.hoplinks.mark_hoplinks.Reads as mark-hoplinks-reads
-use Rattle.query.proofs.limited.to_ancestor.Reads as to-ancestor-reads
-use Rattle.query.proofs.meet.deepest.Reads as deepest-reads
 
--- src/limited.rt:67:9
 returns : tie.Need-returns
-returns c = ?
+returns c =
+    let p = c .before .before .before .pre in (answer-itself (p .0) (p .1 .0 .0) (p .1 .0 .1) (c .if1 .taken), p .1 .1)
 
--- src/limited.rt:69:9
 deepest-requires : tie.Need-deepest-requires
 deepest-requires c κs = search needs
 
--- src/limited.rt:70:21
 enum-known-meeting : tie.Need-enum-known-meeting
 enum-known-meeting c = search needs
 
--- src/limited.rt:71:9
 enum-told : tie.Need-enum-told
 enum-told c = search needs
 
--- src/limited.rt:71:9
 returns-2 : tie.Need-returns-2
-returns-2 c = ?
+returns-2 c =
+    let p = c .before .before .before .before .before .before .pre in
+    (answer-apart (p .0) (p .1 .0 .0) (p .1 .0 .1) (meets-nowhere _ _ _ (c .enum-told .given .1) (c .before .before .deepest .ensures)), p .1 .1)
 
--- src/limited.rt:74:9
 to-ancestor-requires : tie.Need-to-ancestor-requires
-to-ancestor-requires c κs = ?
+to-ancestor-requires c κs =
+    let m = c .before .before .before .before in
+    let e = m .before .before .before in
+    let p = e .before .before .before .pre in
+    let above = meets-start (meets-at _ _ _ (m .meeting .given .1) (m .before .before .deepest .ensures)) (c .before .before .if2 .taken) (e .if1 .left) in
+    (
+      (p .0 .beside .labels, p .0 .depths-filled, p .0 .starts-filled),
+      ((p .1 .0 .1, p .1 .0 .0, above), (omega (arith, p .1 .1 .near-times-places), omega (arith, p .1 .1 .near-energies-places))),
+    )
 
--- src/limited.rt:74:9
 returns-3 : tie.Need-returns-3
-returns-3 c = ?
+returns-3 c =
+    let m = c .before .before .before .before .before in
+    let e = m .before .before .before in
+    let p = e .before .before .before .pre in
+    let above = meets-start (meets-at _ _ _ (m .meeting .given .1) (m .before .before .deepest .ensures)) (c .before .before .before .if2 .taken) (e .if1 .left) in
+    (
+      answer-down (p .0) (p .1 .0 .0) (p .1 .0 .1) above (c .to-ancestor .ensures),
+      record {
+        marks-places = search needs;
+        near-times-places = omega (arith, c .to-ancestor .kept .1 .1 .1 .1 .1 .1 .0, p .1 .1 .near-times-places);
+        near-energies-places = omega (arith, c .to-ancestor .kept .1 .1 .1 .1 .1 .1 .1 .0, p .1 .1 .near-energies-places);
+        far-times-places = search needs;
+        far-energies-places = search needs;
+      },
+    )
 
--- src/limited.rt:77:9
 to-ancestor-requires-2 : tie.Need-to-ancestor-requires-2
-to-ancestor-requires-2 c κs = ?
+to-ancestor-requires-2 c κs =
+    let m = c .before .before .before .before .before in
+    let e = m .before .before .before in
+    let p = e .before .before .before .pre in
+    let above = meets-finish (meets-at _ _ _ (m .meeting .given .1) (m .before .before .deepest .ensures)) (c .before .before .if3 .taken) (e .if1 .left) in
+    (
+      (p .0 .beside .labels, p .0 .depths-filled, p .0 .starts-filled),
+      ((p .1 .0 .0, p .1 .0 .1, above), (omega (arith, p .1 .1 .near-times-places), omega (arith, p .1 .1 .near-energies-places))),
+    )
 
--- src/limited.rt:77:9
 returns-4 : tie.Need-returns-4
-returns-4 c = ?
+returns-4 c =
+    let m = c .before .before .before .before .before .before in
+    let e = m .before .before .before in
+    let p = e .before .before .before .pre in
+    let above = meets-finish (meets-at _ _ _ (m .meeting .given .1) (m .before .before .deepest .ensures)) (c .before .before .before .if3 .taken) (e .if1 .left) in
+    (
+      answer-up (p .0) (p .1 .0 .0) (p .1 .0 .1) above (c .to-ancestor2 .ensures),
+      record {
+        marks-places = search needs;
+        near-times-places = omega (arith, c .to-ancestor2 .kept .1 .1 .1 .1 .1 .1 .0, p .1 .1 .near-times-places);
+        near-energies-places = omega (arith, c .to-ancestor2 .kept .1 .1 .1 .1 .1 .1 .1 .0, p .1 .1 .near-energies-places);
+        far-times-places = search needs;
+        far-energies-places = search needs;
+      },
+    )
 
--- src/limited.rt:79:5
 mark-hoplinks-requires : tie.Need-mark-hoplinks-requires
-mark-hoplinks-requires c κs = ?
+mark-hoplinks-requires c κs =
+    let m = c .before .before .before .before in
+    let p = m .before .before .before .before .before .before .pre in
+    (p .0 .beside, p .0 .depths-filled, meets-at _ _ _ (m .meeting .given .1) (m .before .before .deepest .ensures) .on-map, p .1 .1 .marks-places)
 
--- src/limited.rt:80:5
 across-requires : tie.Need-across-requires
-across-requires c κs = ?
+across-requires c κs =
+    let m = c .before .before .before .before .before .before .before .before .before .before in
+    let p = m .before .before .before .before .before .before .pre in
+    let meets = meets-at _ _ _ (m .meeting .given .1) (m .before .before .deepest .ensures) in
+    (
+      (p .0 .beside .labels, p .0 .depths-filled, p .0 .starts-filled),
+      (
+        meets-above meets (p .0 .beside .labels .parents) (p .1 .0 .0) (p .1 .0 .1) (c .before .before .before .before .before .before .before .before .if2 .left) (c .before .before .before .before .before .before .before .if3 .left),
+        record {
+          near-times = omega (arith, p .1 .1 .near-times-places);
+          near-energies = omega (arith, p .1 .1 .near-energies-places);
+          far-times = omega (arith, p .1 .1 .far-times-places);
+          far-energies = omega (arith, p .1 .1 .far-energies-places);
+        },
+      ),
+    )
 
--- src/limited.rt:45:1
 returns-5 : tie.Need-returns-5
-returns-5 c = ?
+returns-5 c =
+    let m = c .before .before .before .before .before .before .before .before .before .before .before in
+    let p = m .before .before .before .before .before .before .pre in
+    let meets = meets-at _ _ _ (m .meeting .given .1) (m .before .before .deepest .ensures) in
+    let hops = c .before .before .before .before .before .before .mark-hoplinks .ensures in
+    (
+      answer-across (p .0) (p .1 .0 .0) (p .1 .0 .1) meets (c .before .before .before .before .before .before .before .before .before .if2 .left) (c .before .before .before .before .before .before .before .before .if3 .left) hops (c .across .ensures),
+      record {
+        marks-places = hops .marks-length;
+        near-times-places = omega (arith, c .across .kept .1 .1 .1 .1 .1 .1 .1 .1 .0, p .1 .1 .near-times-places);
+        near-energies-places = omega (arith, c .across .kept .1 .1 .1 .1 .1 .1 .1 .1 .1 .0, p .1 .1 .near-energies-places);
+        far-times-places = omega (arith, c .across .kept .1 .1 .1 .1 .1 .1 .1 .1 .1 .1 .0, p .1 .1 .far-times-places);
+        far-energies-places = omega (arith, c .across .kept .1 .1 .1 .1 .1 .1 .1 .1 .1 .1 .1 .0, p .1 .1 .far-energies-places);
+      },
+    )
 
 pub best-spec : {M : Type 1} → statement M
 best-spec =

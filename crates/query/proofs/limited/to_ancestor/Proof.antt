@@ -1,30 +1,28 @@
+-- The list that is found is the stored one, and fits.
 use borrow.Author.Needs.{needs}
+use Rattle.files.proofs.Forest.{above-shallower}
+use Rattle.files.proofs.Places.{found-fits}
+use Rattle.query.proofs.WholeAnswers.{found-stored}
 use Rattle.query.proofs.limited.to_ancestor.Statement.{statement}
 use Rattle.query.proofs.limited.to_ancestor.Tie as tie
-use Rattle.query.proofs.limited.to_ancestor.Reads as reads
-use Rattle.query.proofs.limited.to_ancestor.Lts as lts
-use Rattle.files.proofs.place.find_list.Reads as find-list-reads
-use Rattle.query.proofs.direct.from_list.Reads as from-list-reads
 
--- src/limited.rt:39:9
 find-list-requires : tie.Need-find-list-requires
-find-list-requires c κs = ?
+find-list-requires c κs =
+    let p = c .before .before .before .pre in
+    (p .0 .0, (p .0 .1, (p .0 .2, ((p .1 .0 .0, p .1 .0 .1), above-shallower _ (p .0 .0 .parents .ends) (p .1 .0 .2)))))
 
--- src/limited.rt:41:5
 from-list-requires : tie.Need-from-list-requires
-from-list-requires c κs = ?
+from-list-requires c κs =
+    let p = c .before .before .before .before .before .before .pre in (found-fits (p .0 .0) (c .before .before .find-list .ensures), (p .1 .1 .0, p .1 .1 .1))
 
--- src/limited.rt:24:1
 same-length : tie.Need-same-length
 same-length c = search needs
 
--- src/limited.rt:24:1
 same-length-2 : tie.Need-same-length-2
 same-length-2 c = search needs
 
--- src/limited.rt:24:1
 returns : tie.Need-returns
-returns c = ?
+returns c = found-stored (c .before .before .before .before .before .before .before .find-list .ensures) (c .before .before .before .before .from-list .ensures)
 
 pub to-ancestor-spec : {M : Type 1} → statement M
 to-ancestor-spec =
