@@ -4,12 +4,11 @@ use mathlib.Core.Logic.{_⊎_, ⊎-elim}
 use mathlib.Core.List.{List}
 use Prim.Native.Nat.{ℕ, _≤_, _<_}
 use native.Mathlib.Omega.{arith}
-use Rattle.paths.specs.Weights.{energy, pair, time, spent}
-use Rattle.paths.specs.Answer.{Best}
+use Rattle.paths.specs.Weights.{energy, time, spent}
 use Rattle.paths.proofs.Figures.{number-lawful}
 use Rattle.paths.proofs.Answers.{best-not-over, best-not-apart, over-not-apart}
 use Rattle.paths.proofs.Unique.{best-unique}
-use Rattle.network.specs.NetworkFile.{networkOf, junctionsOf}
+use Rattle.network.specs.NetworkFile.{junctionsOf}
 use Rattle.query.specs.Answers.{Answers, off-map, not-connected, over-limit, found}
 
 -- the same number, time and energy

@@ -71,10 +71,28 @@ pub fn best(
         return Answer::NotConnected;
     };
     if l == x {
-        return to_ancestor(labels, depths, starts, y, x, limit, near_times, near_energies);
+        return to_ancestor(
+            labels,
+            depths,
+            starts,
+            y,
+            x,
+            limit,
+            near_times,
+            near_energies,
+        );
     }
     if l == y {
-        return to_ancestor(labels, depths, starts, x, y, limit, near_times, near_energies);
+        return to_ancestor(
+            labels,
+            depths,
+            starts,
+            x,
+            y,
+            limit,
+            near_times,
+            near_energies,
+        );
     }
     mark_hoplinks(net, labels, depths, l, marks);
     across(

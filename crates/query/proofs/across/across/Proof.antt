@@ -5,6 +5,7 @@ use native.Mathlib.Omega.{arith}
 use borrow.Author.Needs.{needs}
 use lib.ListN.{length}
 use Rattle.files.specs.Forest.{depthOf}
+use Rattle.query.proofs.LoadedLists.{room-again}
 use Rattle.query.proofs.MarkedSums.{Climb, climb-starts, climb-near, climb-far, climb-level, climb-more, climb-ends, count-inside}
 use Rattle.query.proofs.across.across.Statement.{statement}
 use Rattle.query.proofs.across.across.Tie as tie
@@ -48,8 +49,7 @@ add-left c =
 
 loop-holds : tie.Need-loop-holds Inv-loop μ-loop
 loop-holds c =
-    let p = c .before .before .before .before .before .before .before .before .before .pre in
-    (
+    let p = c .before .before .before .before .before .before .before .before .before .pre in (
       climb-starts _ _ (c .before .before .before .find-list .ensures) (c .before .before .find-list2 .ensures) (omega (arith, c .wide .ensures, p .0 .1 .depth _ (p .1 .0 .l-on-map))),
       refl,
       refl,
@@ -65,19 +65,13 @@ at-level-requires c κs =
     let at = c .before .before .before .before .before in
     let p = at .before .before .before .before .before .before .before .before .before .before .pre in
     let e : at .loop .left ≡ suc (at .loop .left - 1) = omega (arith, c .before .before .before .before .loop-test .taken) in
-    let inv = at .loop .inv in
-    (
+    let inv = at .loop .inv in (
       climb-level (inv .0) (p .0 .0) (p .1 .0) e,
       (
         climb-near (inv .0) (p .0 .0) (p .1 .0) e,
         (
           climb-far (inv .0) (p .0 .0) (p .1 .0) e,
-          record {
-            near-times = omega (arith, inv .1, p .1 .1 .near-times);
-            near-energies = omega (arith, inv .2, p .1 .1 .near-energies);
-            far-times = omega (arith, inv .3, p .1 .1 .far-times);
-            far-energies = omega (arith, inv .4, p .1 .1 .far-energies);
-          },
+          room-again (p .1 .1) (inv .1) (inv .2) (inv .3) (inv .4),
         ),
       ),
     )
@@ -108,8 +102,7 @@ loop-again c =
     let p = at .before .before .before .before .before .before .before .before .before .before .pre in
     let e : at .loop .left ≡ suc (at .loop .left - 1) = omega (arith, c .before .before .before .before .before .before .before .before .before .before .before .before .before .before .before .before .loop-test .taken) in
     let inv = at .loop .inv in
-    let level = c .before .before .before .before .before .before .before .before .before .before .before .at-level in
-    (
+    let level = c .before .before .before .before .before .before .before .before .before .before .before .at-level in (
       climb-more (inv .0) (p .0 .0) (p .1 .0) e (level .ensures) (c .before .before .better .ensures) (c .before .next .ensures) (c .next2 .ensures),
       search needs,
       search needs,

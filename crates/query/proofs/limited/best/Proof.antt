@@ -1,6 +1,8 @@
 -- A junction and itself, two trees, one above the other, two branches: in each case the set of pairs that is searched stands for all paths.
+use mathlib.Core.Path.{refl}
 use native.Mathlib.Omega.{arith}
 use borrow.Author.Needs.{needs}
+use Rattle.query.proofs.LoadedLists.{lent-room, lent-again}
 use Rattle.query.proofs.WholeAnswers.{meets-at, meets-nowhere, meets-start, meets-finish, meets-above, answer-itself, answer-apart, answer-up, answer-down, answer-across}
 use Rattle.query.proofs.limited.best.Statement.{statement}
 use Rattle.query.proofs.limited.best.Tie as tie
@@ -28,8 +30,7 @@ to-ancestor-requires c κs =
     let m = c .before .before .before .before in
     let e = m .before .before .before in
     let p = e .before .before .before .pre in
-    let above = meets-start (meets-at _ _ _ (m .meeting .given .1) (m .before .before .deepest .ensures)) (c .before .before .if2 .taken) (e .if1 .left) in
-    (
+    let above = meets-start (meets-at _ _ _ (m .meeting .given .1) (m .before .before .deepest .ensures)) (c .before .before .if2 .taken) (e .if1 .left) in (
       (p .0 .beside .labels, p .0 .depths-filled, p .0 .starts-filled),
       ((p .1 .0 .1, p .1 .0 .0, above), (omega (arith, p .1 .1 .near-times-places), omega (arith, p .1 .1 .near-energies-places))),
     )
@@ -39,16 +40,9 @@ returns-3 c =
     let m = c .before .before .before .before .before in
     let e = m .before .before .before in
     let p = e .before .before .before .pre in
-    let above = meets-start (meets-at _ _ _ (m .meeting .given .1) (m .before .before .deepest .ensures)) (c .before .before .before .if2 .taken) (e .if1 .left) in
-    (
+    let above = meets-start (meets-at _ _ _ (m .meeting .given .1) (m .before .before .deepest .ensures)) (c .before .before .before .if2 .taken) (e .if1 .left) in (
       answer-down (p .0) (p .1 .0 .0) (p .1 .0 .1) above (c .to-ancestor .ensures),
-      record {
-        marks-places = search needs;
-        near-times-places = omega (arith, c .to-ancestor .kept .1 .1 .1 .1 .1 .1 .0, p .1 .1 .near-times-places);
-        near-energies-places = omega (arith, c .to-ancestor .kept .1 .1 .1 .1 .1 .1 .1 .0, p .1 .1 .near-energies-places);
-        far-times-places = search needs;
-        far-energies-places = search needs;
-      },
+      lent-again (p .1 .1) (p .1 .1 .marks-places) (c .to-ancestor .kept .1 .1 .1 .1 .1 .1 .0) (c .to-ancestor .kept .1 .1 .1 .1 .1 .1 .1 .0) refl refl,
     )
 
 to-ancestor-requires-2 : tie.Need-to-ancestor-requires-2
@@ -56,8 +50,7 @@ to-ancestor-requires-2 c κs =
     let m = c .before .before .before .before .before in
     let e = m .before .before .before in
     let p = e .before .before .before .pre in
-    let above = meets-finish (meets-at _ _ _ (m .meeting .given .1) (m .before .before .deepest .ensures)) (c .before .before .if3 .taken) (e .if1 .left) in
-    (
+    let above = meets-finish (meets-at _ _ _ (m .meeting .given .1) (m .before .before .deepest .ensures)) (c .before .before .if3 .taken) (e .if1 .left) in (
       (p .0 .beside .labels, p .0 .depths-filled, p .0 .starts-filled),
       ((p .1 .0 .0, p .1 .0 .1, above), (omega (arith, p .1 .1 .near-times-places), omega (arith, p .1 .1 .near-energies-places))),
     )
@@ -67,16 +60,9 @@ returns-4 c =
     let m = c .before .before .before .before .before .before in
     let e = m .before .before .before in
     let p = e .before .before .before .pre in
-    let above = meets-finish (meets-at _ _ _ (m .meeting .given .1) (m .before .before .deepest .ensures)) (c .before .before .before .if3 .taken) (e .if1 .left) in
-    (
+    let above = meets-finish (meets-at _ _ _ (m .meeting .given .1) (m .before .before .deepest .ensures)) (c .before .before .before .if3 .taken) (e .if1 .left) in (
       answer-up (p .0) (p .1 .0 .0) (p .1 .0 .1) above (c .to-ancestor2 .ensures),
-      record {
-        marks-places = search needs;
-        near-times-places = omega (arith, c .to-ancestor2 .kept .1 .1 .1 .1 .1 .1 .0, p .1 .1 .near-times-places);
-        near-energies-places = omega (arith, c .to-ancestor2 .kept .1 .1 .1 .1 .1 .1 .1 .0, p .1 .1 .near-energies-places);
-        far-times-places = search needs;
-        far-energies-places = search needs;
-      },
+      lent-again (p .1 .1) (p .1 .1 .marks-places) (c .to-ancestor2 .kept .1 .1 .1 .1 .1 .1 .0) (c .to-ancestor2 .kept .1 .1 .1 .1 .1 .1 .1 .0) refl refl,
     )
 
 mark-hoplinks-requires : tie.Need-mark-hoplinks-requires
@@ -89,17 +75,11 @@ across-requires : tie.Need-across-requires
 across-requires c κs =
     let m = c .before .before .before .before .before .before .before .before .before .before in
     let p = m .before .before .before .before .before .before .pre in
-    let meets = meets-at _ _ _ (m .meeting .given .1) (m .before .before .deepest .ensures) in
-    (
+    let meets = meets-at _ _ _ (m .meeting .given .1) (m .before .before .deepest .ensures) in (
       (p .0 .beside .labels, p .0 .depths-filled, p .0 .starts-filled),
       (
         meets-above meets (p .0 .beside .labels .parents) (p .1 .0 .0) (p .1 .0 .1) (c .before .before .before .before .before .before .before .before .if2 .left) (c .before .before .before .before .before .before .before .if3 .left),
-        record {
-          near-times = omega (arith, p .1 .1 .near-times-places);
-          near-energies = omega (arith, p .1 .1 .near-energies-places);
-          far-times = omega (arith, p .1 .1 .far-times-places);
-          far-energies = omega (arith, p .1 .1 .far-energies-places);
-        },
+        lent-room (p .1 .1),
       ),
     )
 
@@ -108,16 +88,9 @@ returns-5 c =
     let m = c .before .before .before .before .before .before .before .before .before .before .before in
     let p = m .before .before .before .before .before .before .pre in
     let meets = meets-at _ _ _ (m .meeting .given .1) (m .before .before .deepest .ensures) in
-    let hops = c .before .before .before .before .before .before .mark-hoplinks .ensures in
-    (
+    let hops = c .before .before .before .before .before .before .mark-hoplinks .ensures in (
       answer-across (p .0) (p .1 .0 .0) (p .1 .0 .1) meets (c .before .before .before .before .before .before .before .before .before .if2 .left) (c .before .before .before .before .before .before .before .before .if3 .left) hops (c .across .ensures),
-      record {
-        marks-places = hops .marks-length;
-        near-times-places = omega (arith, c .across .kept .1 .1 .1 .1 .1 .1 .1 .1 .0, p .1 .1 .near-times-places);
-        near-energies-places = omega (arith, c .across .kept .1 .1 .1 .1 .1 .1 .1 .1 .1 .0, p .1 .1 .near-energies-places);
-        far-times-places = omega (arith, c .across .kept .1 .1 .1 .1 .1 .1 .1 .1 .1 .1 .0, p .1 .1 .far-times-places);
-        far-energies-places = omega (arith, c .across .kept .1 .1 .1 .1 .1 .1 .1 .1 .1 .1 .1 .0, p .1 .1 .far-energies-places);
-      },
+      lent-again (p .1 .1) (hops .marks-length) (c .across .kept .1 .1 .1 .1 .1 .1 .1 .1 .0) (c .across .kept .1 .1 .1 .1 .1 .1 .1 .1 .1 .0) (c .across .kept .1 .1 .1 .1 .1 .1 .1 .1 .1 .1 .0) (c .across .kept .1 .1 .1 .1 .1 .1 .1 .1 .1 .1 .1 .0),
     )
 
 pub best-spec : {M : Type 1} → statement M
