@@ -16,7 +16,7 @@ use Rattle.lists.specs.Entries.{Weight}
 use Rattle.query.specs.declared.Answer.{Answer}
 use Rattle.query.specs.declared.Answer.the-variants as case
 use Rattle.query.specs.Answers.{numberOf, timeOf, energyOf}
-use Rattle.query.specs.AnswerFrom.{BestFrom, OverFrom, AnswerFrom, found, over-limit, not-connected, AsGood, not-later, only-pair, only-paths, beside-nothing, Better, kept, taken}
+use Rattle.query.specs.AnswerFrom.{AnswerFrom, found, over-limit, not-connected, AsGood, not-later, only-pair, only-paths, beside-nothing, Better, kept, taken}
 
 -- ---- Sets of the same pairs
 

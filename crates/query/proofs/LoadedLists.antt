@@ -1,13 +1,13 @@
--- A stored list in two slices, and what one list answers. In this order: the entries of two tables; a list that was loaded; the last
--- entry within a limit.
+-- A stored list in two slices, and what one list answers. In this order: the lent places; the entries of two tables; a list that was
+-- loaded; the last entry within a limit.
 use mathlib.Core.Path.{_≡_, refl, sym, ap, ap₂, _∙_}
-use mathlib.Core.List.{List, _∷_, _++_}
+use mathlib.Core.List.{List, _∷_}
 use Prim.Native.Nat.{ℕ, zero, suc, _-_, _≤_, _<_}
 use native.Mathlib.Decide.{ℕ-discrete, decLt}
 use native.Mathlib.Omega.{arith}
 use lib.ListN.{length, getD, take, drop}
 use lib.Seq.{take-at}
-use Rattle.paths.specs.Weights.{weights, energy, pair, time, spent, Within, NotLater, same, sooner, by-time}
+use Rattle.paths.specs.Weights.{energy, pair, time, spent, Within, NotLater, same, sooner, by-time}
 use Rattle.refusals.specs.Lent.{filled}
 use Rattle.lists.specs.Entries.{Weight, entries, entryAt, IsList}
 use Rattle.lists.specs.Sums.{Leading}
@@ -19,8 +19,46 @@ use Rattle.files.specs.Scanned.{Loaded}
 use Rattle.files.proofs.Tabulate.{length-tabulate, getD-tabulate}
 use Rattle.query.specs.declared.Answer.{Answer}
 use Rattle.query.specs.declared.Answer.the-variants as case
+use Rattle.query.specs.Prepared.{Lent}
+use Rattle.query.specs.Levels.{Room}
 use Rattle.query.specs.Answers.{numberOf, timeOf, energyOf}
-use Rattle.query.specs.AnswerFrom.{EntryOf, BestFrom, OverFrom, AnswerFrom, found, over-limit, not-connected}
+use Rattle.query.specs.AnswerFrom.{EntryOf, AnswerFrom, found, over-limit, not-connected}
+
+-- ---- The lent places
+
+-- there is room for two lists
+pub lent-room : {marks ts es us fs : List ℕ} → Lent marks ts es us fs → Room ts es us fs
+lent-room lent =
+    record {
+      near-times = omega (arith, lent .near-times-places);
+      near-energies = omega (arith, lent .near-energies-places);
+      far-times = omega (arith, lent .far-times-places);
+      far-energies = omega (arith, lent .far-energies-places);
+    }
+
+-- what keeps its lengths keeps its room
+module _ {ts es us fs ts′ es′ us′ fs′ : List ℕ} where
+  pub room-again :
+      Room ts es us fs → length ts′ ≡ length ts → length es′ ≡ length es → length us′ ≡ length us → length fs′ ≡ length fs → Room ts′ es′ us′ fs′
+  room-again room e f g h =
+      record {
+        near-times = omega (arith, room .near-times);
+        near-energies = omega (arith, room .near-energies);
+        far-times = omega (arith, room .far-times);
+        far-energies = omega (arith, room .far-energies);
+      }
+
+  pub lent-again :
+      {marks marks′ : List ℕ} → Lent marks ts es us fs → length marks′ ≡ 1024 → length ts′ ≡ length ts → length es′ ≡ length es →
+      length us′ ≡ length us → length fs′ ≡ length fs → Lent marks′ ts′ es′ us′ fs′
+  lent-again lent marks-places e f g h =
+      record {
+        marks-places = marks-places;
+        near-times-places = e ∙ lent .near-times-places;
+        near-energies-places = f ∙ lent .near-energies-places;
+        far-times-places = g ∙ lent .far-times-places;
+        far-energies-places = h ∙ lent .far-energies-places;
+      }
 
 -- ---- The entries of two tables
 

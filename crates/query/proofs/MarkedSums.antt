@@ -7,25 +7,25 @@ use Prim.Native.Nat.{ℕ, suc, _+_, _-_, _≤_, _<_}
 use native.Mathlib.Decide.{ℕ-discrete}
 use native.Mathlib.Omega.{arith}
 use lib.ListN.{length, getD}
-use Rattle.paths.specs.Weights.{weights, energy, pair, Within}
+use Rattle.paths.specs.Weights.{energy, pair}
 use Rattle.paths.specs.TradeOff.{IsSum}
 use Rattle.paths.specs.Answer.{BestSum}
 use Rattle.lists.specs.Entries.{Weight, entries, IsList}
 use Rattle.lists.specs.Sums.{sumAt, BestPlaces, BestFound}
 use Rattle.lists.specs.declared.Places.{Places}
-use Rattle.lists.specs.declared.Places.the-variants.{At, Nowhere}
+use Rattle.lists.specs.declared.Places.the-variants.{Nowhere}
 use Rattle.lists.proofs.Entries.{member-index, bestPlaces-bestSum, nowhere-noSum, places-sum}
 use Rattle.network.specs.NetworkFile.{junctionsOf}
 use Rattle.files.specs.LabelFile.{listEnd}
 use Rattle.files.specs.Forest.{depthOf}
-use Rattle.files.specs.Stored.{listsBefore, placeOf, listPlace, listAt}
+use Rattle.files.specs.Stored.{listsBefore, placeOf, listPlace}
 use Rattle.files.specs.Formed.{Formed, ListFits}
 use Rattle.files.specs.Scanned.{FoundList}
 use Rattle.files.proofs.Places.{list-takes, place-next, list-number-of}
 use Rattle.query.specs.declared.Answer.{Answer}
 use Rattle.query.specs.declared.Answer.the-variants as case
 use Rattle.query.specs.Answers.{numberOf, timeOf, energyOf}
-use Rattle.query.specs.AnswerFrom.{BestFrom, OverFrom, AnswerFrom, found, over-limit, not-connected, Better}
+use Rattle.query.specs.AnswerFrom.{BestFrom, AnswerFrom, found, over-limit, not-connected, Better}
 use Rattle.query.specs.Levels.{behind, LevelSum, MarkedSum, Branches}
 use Rattle.query.proofs.AnswersFrom.{answer-same, Splits, better-answer}
 use Rattle.query.proofs.LoadedLists.{Holds}

@@ -1,17 +1,15 @@
 -- Which sets of pairs answer a query. In this order: a set that stands for all paths; one list; the marked sums;
 -- where two branches meet; the answers of a query.
-use mathlib.Core.Path.{_≡_, refl, sym, ap, _∙_, subst}
-use mathlib.Core.Logic.{_⊎_, inl, inr, ⊎-elim}
+use mathlib.Core.Path.{_≡_, refl, sym, ap, subst}
+use mathlib.Core.Logic.{inl, inr, ⊎-elim}
 use mathlib.Core.List.{List}
-use Prim.Native.Nat.{ℕ, suc, _-_, _≤_, _<_}
+use Prim.Native.Nat.{ℕ, suc, _-_, _<_}
 use native.Mathlib.Omega.{arith}
-use lib.ListN.{length, getD}
 use Rattle.paths.specs.Weights.{weights, energy, pair}
 use Rattle.paths.specs.Network.{Walk, weight}
 use Rattle.paths.specs.TradeOff.{IsTradeOff, IsSum}
-use Rattle.paths.specs.Answer.{Best, Over, Apart}
 use Rattle.paths.specs.Cut.{IsCut}
-use Rattle.paths.specs.Forest.{Parents, Above, Ancestor, IsForest, Common, Deepest, WorkingSet, itself, crossing, Hoplink}
+use Rattle.paths.specs.Forest.{Parents, Above, Ancestor, IsForest, Common, Deepest, WorkingSet, itself, crossing}
 use Rattle.paths.proofs.Figures.{number-lawful}
 use Rattle.paths.proofs.Weights.{⊑-notLater, notLater-trans}
 use Rattle.paths.proofs.Walks.{WalkOf}
@@ -20,20 +18,18 @@ use Rattle.paths.proofs.Answers.{alone-best}
 use Rattle.paths.proofs.TwoWay.{tradeOff-back}
 use Rattle.paths.proofs.Forest.{ancestor-then-above, deepest-unique, above-irrefl}
 use Rattle.paths.proofs.Crossing.{hoplinks-cut, apart-without-common}
-use Rattle.paths.proofs.CutSums.{ListsAcross, SumBelow, walk-has-sum, sum-has-walk}
+use Rattle.paths.proofs.CutSums.{ListsAcross, walk-has-sum, sum-has-walk}
 use Rattle.lists.specs.Entries.{Weight}
 use Rattle.network.specs.NetworkFile.{networkOf, junctionsOf}
 use Rattle.files.specs.LabelFile.{parentsOf}
 use Rattle.files.specs.Forest.{depthOf, ancestorOf}
-use Rattle.files.specs.Stored.{listPlace, listAt, stored}
-use Rattle.files.specs.Formed.{ParentsFit, Beside}
+use Rattle.files.specs.Stored.{listAt, stored}
+use Rattle.files.specs.Formed.{ParentsFit}
 use Rattle.files.specs.Scanned.{FoundList}
-use Rattle.files.proofs.Chains.{Climbed, climbed}
+use Rattle.files.proofs.Chains.{climbed}
 use Rattle.files.proofs.Forest.{AncestorAt, ancestor-at, above-shallower}
-use Rattle.exact.specs.Right.{EveryListRight}
 use Rattle.exact.proofs.Exactness.{roads-two-way, parents-forest, roads-joined}
 use Rattle.query.specs.declared.Answer.{Answer}
-use Rattle.query.specs.declared.Answer.the-variants as case
 use Rattle.query.specs.Prepared.{Prepared}
 use Rattle.query.specs.Answers.{numberOf, timeOf, energyOf, Answers}
 use Rattle.query.specs.Answers as whole
@@ -41,7 +37,7 @@ use Rattle.query.specs.AnswerFrom.{EntryOf, AnswerFrom, found, over-limi
 use Rattle.query.specs.declared.Meeting.{Meeting}
 use Rattle.query.specs.declared.Meeting.the-variants.{At, Nowhere}
 use Rattle.query.specs.Meeting.{MeetsAt, Meets, HopMarks}
-use Rattle.query.specs.Levels.{behind, LevelSum, MarkedSum, Branches}
+use Rattle.query.specs.Levels.{behind, MarkedSum, Branches}
 use Rattle.query.proofs.MarkedSums.{level-place}
 
 -- ---- A set that stands for all paths
@@ -155,9 +151,6 @@ module _ {net s depths starts : List ℕ} (prepared : Prepared net s depths star
       marked-real : {p : Weight} → MarkedSum s marks x y 0 (suc (depthOf s l)) p → WalkOf (networkOf net) x y p
       marked-real {p} h = sum-has-walk number-lawful lists-across inside sum
         where
-          top : ℕ
-          top = ancestorOf s l (depthOf s l - h .level)
-
           inside : WorkingSet (networkOf net) (parentsOf s) l (ancestorOf s l (depthOf s l - h .level))
           inside = hops .marked (h .level) (omega (arith, h .not-above)) (h .here .marked)
 

@@ -2,9 +2,9 @@
 pub mod Ready
 pub mod Prepared
 pub mod Answers
-pub mod AnswerFrom
 pub mod Meeting
 pub mod Marking
+pub mod AnswerFrom
 pub mod Levels
 pub mod Reach
 pub mod Searched
