@@ -81,7 +81,7 @@ mark-hoplinks-requires c κs =
     let e = m .before .before .before in
     let p = e .before .before .before .pre in
     let meets = meets-at _ _ _ (m .meeting .given .1) (m .before .before .deepest .ensures) in
-    (p .0 .beside, (p .0 .depths-filled, (meets .on-map, p .1 .1)))
+    (p .0 .beside, p .0 .depths-filled, meets .on-map, p .1 .1)
 
 search-levels-requires : tie.Need-search-levels-requires
 search-levels-requires c κs =
