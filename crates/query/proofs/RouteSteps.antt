@@ -210,9 +210,10 @@ module _ {net : List ℕ} (fits : NetworkFits net) where
             absurd (step .none-before (other .number) (omega arith) (arc-touches fits (other .arc) .0) (arc-fits (other .arc) w (other .wanted)))
         pick (no h) (no apart) =
             omega (
-            arith,
-            ends,
-            others-rise fits x k (other .number) (omega arith) (other .arc .stands) (step .at-start) (arc-touches fits (other .arc) .0))
+              arith,
+              ends,
+              others-rise fits x k (other .number) (omega arith) (other .arc .stands) (step .at-start) (arc-touches fits (other .arc) .0),
+            )
 
     -- the first route of the rest, with x before it, is the first route of the whole
     pub step-route :

@@ -151,7 +151,17 @@ pub fn route(
         junctions[count] = here as u32;
         count += 1;
         let k = step_road(
-            net, labels, depths, starts, heads, nexts, here, y, rest_time, rest_units, marks,
+            net,
+            labels,
+            depths,
+            starts,
+            heads,
+            nexts,
+            here,
+            y,
+            rest_time,
+            rest_units,
+            marks,
         );
         rest_time = time_left(rest_time, road_time(net, k));
         rest_units = energy_left(rest_units, road_energy(net, k));

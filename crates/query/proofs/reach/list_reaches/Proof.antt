@@ -32,7 +32,7 @@ time-at-requires c κs =
     omega (
       arith,
       entry-inside (counted .before .before .before .pre) {j = fitted .fitting .result - 1}
-      (omega (arith, fitted .fitting .ensures .in-range, counted .wide .ensures, counted .before .u16-at .ensures .is, c .if1 .left)),
+          (omega (arith, fitted .fitting .ensures .in-range, counted .wide .ensures, counted .before .u16-at .ensures .is, c .if1 .left)),
     )
 
 at-most-requires : tie.Need-at-most-requires

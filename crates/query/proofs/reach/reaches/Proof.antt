@@ -88,8 +88,7 @@ search-levels-requires c κs =
     let m = c .before .before .before .before .before .before in
     let e = m .before .before .before in
     let p = e .before .before .before .pre in
-    let meets = meets-at _ _ _ (m .meeting .given .1) (m .before .before .deepest .ensures) in
-    (
+    let meets = meets-at _ _ _ (m .meeting .given .1) (m .before .before .deepest .ensures) in (
       (p .0 .beside .labels, p .0 .depths-filled, p .0 .starts-filled),
       meets-above meets (p .0 .beside .labels .parents) (omega (arith, p .1 .0 .0, p .0 .beside .one-map)) (omega (arith, p .1 .0 .1, p .0 .beside .one-map)) (c .before .before .before .before .if2 .left) (c .before .before .before .if3 .left),
     )

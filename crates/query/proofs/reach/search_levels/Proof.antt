@@ -70,8 +70,7 @@ add-left c =
 
 search-holds : tie.Need-search-holds Inv-loop μ-loop Inv-search μ-search
 search-holds c =
-    let p = c .before .before .before .before .before .pre in
-    (
+    let p = c .before .before .before .before .before .pre in (
       levels-start _ _ _ (c .before .before .before .find-list .ensures) (c .before .before .find-list2 .ensures) (omega (arith, c .wide .ensures, p .0 .1 .depth _ (p .1 .l-on-map))),
       refl,
     )
@@ -129,8 +128,7 @@ covers-requires c κs =
     let p = at .before .before .before .before .before .before .pre in
     let up = level-up (c .before .before .before .before .before .before .before .search-test .taken) in
     let now = at .search .inv .0 in
-    let loop = c .before .before .before in
-    (
+    let loop = c .before .before .before in (
       (levels-near now (p .0 .0) (p .1) up, levels-far now (p .0 .0) (p .1) up),
       (
         omega (arith, c .before .before .loop-test .taken, loop .before .before .before .asked .ensures .few),
@@ -184,8 +182,7 @@ search-again c =
     let now = at .search .inv .0 in
     let moved = c .before in
     let ended = moved .before in
-    let loop = ended .before in
-    (
+    let loop = ended .before in (
       levels-more now (p .0 .0) (p .1) up (pairing-end (loop .loop .inv .0) (ended .loop-test .left) (loop .before .before .before .asked .ensures)) (moved .next .ensures) (c .next2 .ensures),
       loop .loop .inv .1,
     )

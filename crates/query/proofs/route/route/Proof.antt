@@ -114,14 +114,13 @@ loop-again c =
     let spends = units .before in
     let seconds = spends .before in
     let takes = seconds .before in
-    let stepped = takes .before in
-    (
+    let stepped = takes .before in (
       way-more fits way (stepped .before .before .loop-test .taken) (stepped .step-road .ensures .0) (c .other-end .ensures .is)
-      (takes .road-time .ensures .is)
-      (seconds .time-left .ensures)
-      (spends .road-energy .ensures .is)
-      (units .energy-left .ensures),
-      stepped .step-road .ensures .1
+          (takes .road-time .ensures .is)
+          (seconds .time-left .ensures)
+          (spends .road-energy .ensures .is)
+          (units .energy-left .ensures),
+      stepped .step-road .ensures .1,
     )
 
 cast-junctions-2 : tie.Need-cast-junctions-2 Inv-loop μ-loop

@@ -54,20 +54,19 @@ returns-3 c =
     let second = other .before in
     let spends = second .before .before in
     let first = spends .before in
-    let takes = first .before .before in
-    (
+    let takes = first .before .before in (
       step-decided
-      (takes .road-time .ensures .is)
-      (first .before .below .ensures)
-      (first .if1 .left)
-      (spends .road-energy .ensures .is)
-      (second .before .below2 .ensures)
-      (second .if2 .left)
-      (other .other-end .ensures .is)
-      (seconds .time-left .ensures)
-      (units .energy-left .ensures)
-      (c .reaches .ensures .0),
-      c .reaches .ensures .1
+          (takes .road-time .ensures .is)
+          (first .before .below .ensures)
+          (first .if1 .left)
+          (spends .road-energy .ensures .is)
+          (second .before .below2 .ensures)
+          (second .if2 .left)
+          (other .other-end .ensures .is)
+          (seconds .time-left .ensures)
+          (units .energy-left .ensures)
+          (c .reaches .ensures .0),
+      c .reaches .ensures .1,
     )
 
 pub step-fits-spec : {M : Type 1} → statement M
