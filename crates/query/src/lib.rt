@@ -17,5 +17,10 @@ pub enum Meeting {
     Nowhere,
 }
 
+pub mod across;
+pub mod direct;
 pub mod hoplinks;
+pub mod limited;
 pub mod meet;
+pub mod reach;
+pub mod route;

@@ -1,0 +1,42 @@
+-- The sums at the marked levels: for each marked depth, the sums of two junctions' lists for their ancestors at that depth.
+use mathlib.Core.Path.{_≡_}
+use mathlib.Core.List.{List}
+use Prim.Native.Nat.{ℕ, suc, _+_, _-_, _≤_, _<_}
+use lib.ListN.{length, getD}
+use Rattle.paths.specs.Weights.{energy}
+use Rattle.paths.specs.TradeOff.{IsSum}
+use Rattle.lists.specs.Entries.{Weight}
+use Rattle.network.specs.NetworkFile.{junctionsOf}
+use Rattle.files.specs.Forest.{depthOf}
+use Rattle.files.specs.Stored.{listsBefore, placeOf, listAt}
+
+-- The byte behind v's lists for its ancestors of depth k and deeper: where its list for the ancestor of depth k - 1 starts
+abbrev pub behind : List ℕ → ℕ → ℕ → ℕ
+behind s v k = placeOf s (listsBefore s v + (depthOf s v - k))
+
+-- The level is marked, and p is a sum of entries of the lists at two bytes
+pub record LevelSum (s marks : List ℕ) (level near far : ℕ) (p : Weight) : Type 0 where
+  pub marked : getD marks level 0 ≡ 1
+  pub sum : IsSum energy (listAt s near) (listAt s far) p
+
+-- p is a sum at a marked level from `low` up to below `high`
+pub record MarkedSum (s marks : List ℕ) (x y low high : ℕ) (p : Weight) : Type 0 where
+  pub level : ℕ
+  pub not-below : low ≤ level
+  pub not-above : level < high
+  pub here : LevelSum s marks level (behind s x (suc level)) (behind s y (suc level)) p
+
+-- l stands above x and above y: how their lists for l and for what is above l are reached
+pub record Branches (s : List ℕ) (x y l : ℕ) : Type 0 where
+  pub x-on-map : x < junctionsOf s
+  pub y-on-map : y < junctionsOf s
+  pub l-on-map : l < junctionsOf s
+  pub below-x : depthOf s l < depthOf s x
+  pub below-y : depthOf s l < depthOf s y
+
+-- Four slices with room for the longest list
+pub record Room (nearTimes nearEnergies farTimes farEnergies : List ℕ) : Type 0 where
+  pub near-times : 4095 ≤ length nearTimes
+  pub near-energies : 4095 ≤ length nearEnergies
+  pub far-times : 4095 ≤ length farTimes
+  pub far-energies : 4095 ≤ length farEnergies
