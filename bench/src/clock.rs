@@ -1,4 +1,5 @@
-//! The processor time of this thread: on a loaded machine most of a longer run's time on the wall is other programs' time.
+//! The processor time of this thread: on a loaded machine most of the time on the wall is other
+//! programs' time.
 
 use std::time::Duration;
 

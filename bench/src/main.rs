@@ -62,7 +62,8 @@ fn machine() {
 fn form(files: &Files) {
     let (net, labels) = (&files.net, &files.labels);
     let input = format!("{}, {} bytes", files.note, labels.len());
-    assert_eq!(proved::form(net, labels), 0, "{input}");
+    let numbers = [plain::form::by_index, plain::form::by_chunks, proved::form];
+    assert_eq!(numbers.map(|form| form(net, labels)), [0; 3], "{input}");
     let row = pair(
         || plain::form::by_index(black_box(net), black_box(labels)),
         || proved::form(black_box(net), black_box(labels)),

@@ -1,4 +1,6 @@
-//! The proved functions, over the C interface of crates/measured: every slice is its first element and its length in elements.
+//! The proved functions, over the C interface of crates/measured.
+//!
+//! Every slice is passed as its first element and its length in elements.
 
 use crate::inputs::lists::{Arc, List};
 
@@ -111,7 +113,8 @@ pub fn cover(list: &List, arc: Arc, rest: &List, marks: &mut [u8]) -> bool {
 
 /// Join.
 pub fn join(first: &List, second: &List, out_times: &mut [u32], out_energies: &mut [u32]) -> Count {
-    // SAFETY: all are slices, those lent to be filled overlap no other, and the function requires nothing else.
+    // SAFETY: all are slices, those lent to be filled overlap no other, and the function requires
+    // nothing else.
     unsafe {
         measured_join(
             first.times().as_ptr(),

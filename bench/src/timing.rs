@@ -45,7 +45,8 @@ pub fn pair<A, B>(mut plain: impl FnMut() -> A, mut proved: impl FnMut() -> B) -
     }
 }
 
-/// The lower quartile, and not the least: a virtual machine takes stolen time off the clock late, so single times come out too low.
+/// The lower quartile, and not the least: on a virtual machine single times of this clock were seen far
+/// too low.
 fn low(mut times: Vec<Duration>) -> Duration {
     times.sort();
     times[times.len() / 4]

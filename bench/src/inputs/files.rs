@@ -1,4 +1,5 @@
-//! Pairs of files that pass the form check. It asks only that labels are well-formed, so theirs are not right ones.
+//! Pairs of files that pass the form check. It asks only that labels are well-formed, so theirs are not
+//! right ones.
 
 use std::collections::BTreeSet;
 use std::ops::RangeInclusive;

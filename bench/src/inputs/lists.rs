@@ -5,7 +5,8 @@ use generate::random::Random;
 /// What the proved functions require of a number of a list.
 const MOST_NUMBER: u32 = 2_147_483_647;
 
-/// A list in two slices; made only by [`List::new`], so that each keeps to what the proved functions require.
+/// A list in two slices; made only by [`List::new`], so that each keeps to what the proved functions
+/// require.
 pub struct List {
     times: Vec<u32>,
     energies: Vec<u32>,

@@ -1,4 +1,5 @@
-//! The form check: the tests of both files in the order of their numbers, as crates/network and crates/files take them.
+//! The form check: the tests of both files in the order in which crates/network and crates/files
+//! take them.
 
 const NO_PARENT: u16 = 65_535;
 const MOST_BYTES: usize = 4_194_304;

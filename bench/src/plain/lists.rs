@@ -9,7 +9,8 @@ const MOST_NUMBER: u32 = 1_073_741_823;
 /// More than the energy of any sum.
 const ABOVE_ALL: u32 = 2_147_483_647;
 
-/// Whether each sum of the arc and an entry of the second list is covered by the first; entries that a sum equals are marked.
+/// Whether each sum of the arc and an entry of the second list is covered by the first; entries that a
+/// sum equals are marked.
 #[inline(never)]
 pub fn cover(list: &List, arc: Arc, rest: &List, marks: &mut [u8]) -> bool {
     let (times, energies) = (list.times(), list.energies());
@@ -77,7 +78,8 @@ pub fn join(first: &List, second: &List, out_times: &mut [u32], out_energies: &m
     }
 }
 
-/// The unbeaten sums from the fast end: the best sum below a bound, then the best below that one's energy, and so on.
+/// The unbeaten sums from the fast end: the best sum below a bound, then the best below that one's
+/// energy, and so on.
 fn unbeaten(first: &List, second: &List) -> impl Iterator<Item = (u32, u32)> {
     let mut bound = ABOVE_ALL;
     std::iter::from_fn(move || {
