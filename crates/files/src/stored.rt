@@ -23,7 +23,7 @@ const LEAST_ENERGY: u32 = 1;
 const MOST_FIGURE: u32 = 67042305;
 
 // The time of entry j of the list at a byte.
-fn time_at(labels: &[u8], at: usize, j: usize) -> Seconds
+pub fn time_at(labels: &[u8], at: usize, j: usize) -> Seconds
     requires { ⌜ at + 6 + 8 * j ≤ length (now labels) ⌝ }
     ensures { λ r. ⌜ r .0 ≡ timeAt (now (labels .entry)) at j ⌝ }
 {
@@ -31,7 +31,7 @@ fn time_at(labels: &[u8], at: usize, j: usize) -> Seconds
 }
 
 // Its energy.
-fn energy_at(labels: &[u8], at: usize, j: usize) -> Energy
+pub fn energy_at(labels: &[u8], at: usize, j: usize) -> Energy
     requires { ⌜ at + 10 + 8 * j ≤ length (now labels) ⌝ }
     ensures { λ r. ⌜ r .0 ≡ energyAt (now (labels .entry)) at j ⌝ }
 {
