@@ -9,3 +9,4 @@ pub mod AnswersUnique
 pub mod Searching
 pub mod RouteSteps
 pub mod RouteWay
+pub mod ListSteps

@@ -42,7 +42,7 @@ walk-meets stay = omega arith
 walk-meets (go a rest) = omega arith
 
 -- a junction alone is an unbeaten path to itself, and nothing else is
-alone-spends-none : {net : List ℕ} {y : ℕ} {p : weights energy .Figure} → Skyline (networkOf net) y y p → weights energy .𝟘 ≡ p
+pub alone-spends-none : {net : List ℕ} {y : ℕ} {p : weights energy .Figure} → Skyline (networkOf net) y y p → weights energy .𝟘 ≡ p
 unfolding weight
 alone-spends-none {p = p} line = unbeaten-below number-lawful (weights-lawful number-lawful .𝟘-least p) (line .unbeaten stay)
 

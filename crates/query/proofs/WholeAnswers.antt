@@ -115,7 +115,7 @@ module _ {net s depths starts : List ℕ} (prepared : Prepared net s depths star
   -- ---- The marked sums
 
   module _ {x y l : ℕ} (below-x : Above (parentsOf s) l x) (below-y : Above (parentsOf s) l y) (deepest : Deepest (parentsOf s) x y l) where
-    of-l : {h : ℕ} → WorkingSet (networkOf net) (parentsOf s) l h → Ancestor (parentsOf s) h l
+    pub of-l : {h : ℕ} → WorkingSet (networkOf net) (parentsOf s) l h → Ancestor (parentsOf s) h l
     of-l (itself e) = inl e
     of-l (crossing above road) = inr above
 
@@ -134,7 +134,7 @@ module _ {net s depths starts : List ℕ} (prepared : Prepared net s depths star
         finish : Ancestor (parentsOf s) y x → ⊥
         finish h = above-irrefl forest (ancestor-then-above (deepest .below-all y (record { of-start = h; of-finish = inl refl })) below-y)
 
-    lists-across : ListsAcross (networkOf net) (WorkingSet (networkOf net) (parentsOf s) l) x y (stored s x) (stored s y)
+    pub lists-across : ListsAcross (networkOf net) (WorkingSet (networkOf net) (parentsOf s) l) x y (stored s x) (stored s y)
     lists-across =
         record {
           cut = working-set-cut;

@@ -21,6 +21,7 @@ pub mod across;
 pub mod direct;
 pub mod hoplinks;
 pub mod limited;
+pub mod list;
 pub mod meet;
 pub mod reach;
 pub mod route;
