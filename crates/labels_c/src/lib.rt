@@ -1,5 +1,6 @@
 // The calls for C and Rust: the functions of `labels` behind the names of include/bushelvane.h.
-use lists::{JoinAnswer, SumAnswer};
+use lists::JoinAnswer;
+use lists::SumAnswer;
 ghost use mathlib.Core.Path.{_≡_};
 ghost use Rattle.labels.specs.Check.{Checked};
 
