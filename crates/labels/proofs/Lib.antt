@@ -1,3 +1,6 @@
 -- Why the calls give what they state, and that no second outcome meets a statement.
 pub mod Accepts
 pub mod CheckUnique
+pub mod BatchSteps
+pub mod Accepted
+pub mod BatchWays

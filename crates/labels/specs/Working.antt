@@ -1,10 +1,11 @@
 -- What the working functions behind the calls leave.
 use mathlib.Core.Path.{_≡_}
 use mathlib.Core.List.{List}
-use Prim.Native.Nat.{ℕ}
-use lib.ListN.{length}
+use Prim.Native.Nat.{ℕ, _+_, _*_, _<_}
+use lib.ListN.{length, set}
 use Rattle.files.specs.Formed.{Tables}
 use Rattle.labels.specs.Check.{Checked}
+use Rattle.labels.specs.Batch.{TripleAnswered}
 
 -- The check, with the tables of one call left filled where the number is 0
 pub record Accepting (net s : List ℕ) (number : ℕ) (depths starts heads nexts : List ℕ) : Type 0 where
@@ -14,3 +15,17 @@ pub record Accepting (net s : List ℕ) (number : ℕ) (depths starts heads next
   pub starts-length : length starts ≡ 1024
   pub heads-length : length heads ≡ 1024
   pub nexts-length : length nexts ≡ 8192
+
+-- Three numbers written from a place on
+abbrev pub putTriple : List ℕ → ℕ → ℕ → ℕ → ℕ → List ℕ
+putTriple places at number time units = set (set (set places at number) (at + 1) time) (at + 2) units
+
+-- The first i triples of a batch have their answers
+pub record AnsweredTo (net queries before now : List ℕ) (i : ℕ) : Type 0 where
+  pub one-length : length now ≡ length before
+  pub answered : (k : ℕ) → k < i → TripleAnswered net queries now k
+
+-- A batch of whole triples and as many places for its answers
+pub record Triples (queries answers : List ℕ) (count : ℕ) : Type 0 where
+  pub whole : length queries ≡ 3 * count
+  pub places : length answers ≡ length queries

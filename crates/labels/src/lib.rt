@@ -10,8 +10,10 @@ ghost use Rattle.lists.specs.Answers.{Join, LimitedJoin, joinNumberOf, joinCoun
 ghost use Rattle.files.specs.Stored.{listPlace};
 ghost use Rattle.files.specs.Shown.{Shown};
 ghost use Rattle.labels.specs.Check.{Checked};
+ghost use Rattle.labels.specs.Batch.{BatchDone};
 
 pub mod accept;
+pub mod triples;
 
 // Check: 0 if the network and the labels are accepted, else the number of the first test that fails (1 to 6, 11 to 18).
 pub fn check(net: &[u8], labels: &[u8]) -> u32
@@ -29,6 +31,34 @@ pub fn check(net: &[u8], labels: &[u8]) -> u32
         &mut heads,
         &mut nexts,
     )
+}
+
+// Batch: triples s, t, limit in; for each a triple number, time, energy. A triple's 21, 22 or 23 refuses it alone. The call's own
+// number is 0, or 31 or 32 for slices of a wrong length, or the check's; then no answer is written.
+pub fn batch(net: &[u8], labels: &[u8], queries: &[u32], answers: &mut [u32]) -> u32
+    ensures { λ r.
+        ⌜ BatchDone (now (net .entry)) (now (labels .entry)) (now (queries .entry)) (now (answers .entry)) r (now (answers .exit)) ⌝ }
+{
+    let length = queries.len();
+    if length % 3 != 0 {
+        return 31;
+    }
+    if length > 3072 {
+        return 31;
+    }
+    if answers.len() != length {
+        return 32;
+    }
+    let mut depths: [u32; 1024] = [0; 1024];
+    let mut starts: [u32; 1024] = [0; 1024];
+    let mut heads: [u32; 1024] = [0; 1024];
+    let mut nexts: [u32; 8192] = [0; 8192];
+    let number = accept::accept(net, labels, &mut depths, &mut starts, &mut heads, &mut nexts);
+    if number != 0 {
+        return number;
+    }
+    triples::answer_all(net, labels, &depths, &starts, queries, length / 3, answers);
+    0
 }
 
 // Join: the unbeaten sums of two lists, each once, in order, into the first places of two lent slices; how many, or 41, 42, 24.

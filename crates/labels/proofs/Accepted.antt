@@ -1,0 +1,32 @@
+-- What follows where the check's number is 0: an accepted set, and with the tables of the call what queries stand on.
+use mathlib.Core.Path.{_≡_, sym, _∙_}
+use mathlib.Core.List.{List}
+use Prim.Native.Nat.{ℕ}
+use native.Mathlib.Omega.{arith}
+use Rattle.network.proofs.Accepted.{network-fits}
+use Rattle.files.proofs.FormLaws.{form-beside-passed}
+use Rattle.exact.specs.Right.{Accepted}
+use Rattle.query.specs.Prepared.{Prepared}
+use Rattle.labels.specs.Check.{Checked, network-refused, labels-refused, list-wrong, accepted}
+use Rattle.labels.specs.Working.{Accepting}
+
+-- number 0 is given to accepted sets alone
+pub zero-accepts : {net s : List ℕ} {number : ℕ} → Checked net s number → number ≡ 0 → Accepted net s
+zero-accepts (network-refused n e) z = absurd (n (sym e ∙ z))
+zero-accepts (labels-refused y n e) z = absurd (n (sym e ∙ z))
+zero-accepts (list-wrong y x w e) z = absurd (omega arith)
+zero-accepts (accepted y x w e) z = record { network-passes = y; form-passes = x; every-list-right = w }
+
+-- and every accepted set gets it
+pub accepted-zero : {net s : List ℕ} → Accepted net s → Checked net s 0
+accepted-zero a = accepted (a .network-passes) (a .form-passes) (a .every-list-right) mathlib.Core.Path.refl
+
+pub ready-for-queries : {net s depths starts heads nexts : List ℕ} {number : ℕ} → Accepting net s number depths starts heads nexts → number ≡ 0 → Prepared net s depths starts
+ready-for-queries {net} {s} accepting none =
+    let a = zero-accepts (accepting .checked) none in
+    record {
+      beside = form-beside-passed s (network-fits net (a .network-passes)) (a .form-passes);
+      every-list-right = a .every-list-right;
+      depths-filled = accepting .tables none .depths-filled;
+      starts-filled = accepting .tables none .starts-filled
+    }
