@@ -4,3 +4,4 @@ pub mod CheckUnique
 pub mod BatchSteps
 pub mod Accepted
 pub mod BatchWays
+pub mod BatchUnique
