@@ -30,6 +30,9 @@ fn main() {
     for files in files::all() {
         form(&files);
     }
+    for files in inputs::right::all() {
+        check(&files);
+    }
     let mut random = Random::new(0, 1);
     for size in [10, 100, 1_000, 4_095] {
         cover(size, &lists::covered(&mut random, size, ENTRIES / size));
@@ -57,6 +60,18 @@ fn machine() {
     let load = fs::read_to_string("/proc/loadavg").unwrap_or_default();
     let load = load.split(' ').next().unwrap_or_default();
     println!("{cores} cores, {model}, load {load} at the start\n");
+}
+
+fn check(files: &Files) {
+    let (net, labels) = (&files.net, &files.labels);
+    let input = format!("{}, {} bytes", files.note, labels.len());
+    assert_eq!(proved::check(net, labels), 0, "{input}");
+    assert_eq!(plain::exact::check(net, labels), 0, "{input}");
+    let row = pair(
+        || plain::exact::check(black_box(net), black_box(labels)),
+        || proved::check(black_box(net), black_box(labels)),
+    );
+    row.print("whole check", &input);
 }
 
 fn form(files: &Files) {

@@ -32,6 +32,12 @@ pub struct Count {
 }
 
 unsafe extern "C" {
+    fn measured_check(
+        net: *const u8,
+        net_length: usize,
+        labels: *const u8,
+        labels_length: usize,
+    ) -> u32;
     fn measured_form(
         net: *const u8,
         net_length: usize,
@@ -80,6 +86,12 @@ unsafe extern "C" {
         more_energies_length: usize,
         limit: u32,
     ) -> Best;
+}
+
+/// The whole check.
+pub fn check(net: &[u8], labels: &[u8]) -> u32 {
+    // SAFETY: pointer and length come from one slice, and the library keeps neither.
+    unsafe { measured_check(net.as_ptr(), net.len(), labels.as_ptr(), labels.len()) }
 }
 
 /// The form check of labels beside a network.

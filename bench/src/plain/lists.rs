@@ -13,9 +13,27 @@ const ABOVE_ALL: u32 = 2_147_483_647;
 /// sum equals are marked.
 #[inline(never)]
 pub fn cover(list: &List, arc: Arc, rest: &List, marks: &mut [u8]) -> bool {
-    let (times, energies) = (list.times(), list.energies());
+    cover_slices(
+        list.times(),
+        list.energies(),
+        arc,
+        rest.times(),
+        rest.energies(),
+        marks,
+    )
+}
+
+#[inline]
+pub fn cover_slices(
+    times: &[u32],
+    energies: &[u32],
+    arc: Arc,
+    rest_times: &[u32],
+    rest_energies: &[u32],
+    marks: &mut [u8],
+) -> bool {
     let mut count = 0;
-    for (rest_time, rest_energy) in rest.times().iter().zip(rest.energies()) {
+    for (rest_time, rest_energy) in rest_times.iter().zip(rest_energies) {
         let time = arc.time + rest_time;
         let energy = arc.energy + rest_energy;
         while count < energies.len() && energies[count] <= energy {

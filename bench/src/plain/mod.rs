@@ -2,5 +2,6 @@
 //!
 //! None is inlined into the run: a proved function is called through its archive, too.
 
+pub mod exact;
 pub mod form;
 pub mod lists;

@@ -14,6 +14,7 @@ ghost use Rattle.paths.specs.Weights.{pair};
 ghost use Rattle.lists.specs.Entries.{IsList};
 ghost use Rattle.lists.specs.Cover.{Covering};
 ghost use Rattle.lists.specs.Answers.{Join, LimitedJoin};
+ghost use Rattle.labels.specs.Check.{Checked};
 ghost use Rattle.measured.specs.FormNumber.{FormNumber};
 
 // What Join answers, for a caller in Rust: the number it refuses by and no count, or 0 and the places filled.
@@ -29,6 +30,14 @@ pub struct MeasuredBest {
     pub number: u32,
     pub time: u32,
     pub energy: u32,
+}
+
+// The whole check.
+#[no_mangle]
+pub extern "C" fn measured_check(net: &[u8], labels: &[u8]) -> u32
+    ensures { λ r. ⌜ Checked (now (net .entry)) (now (labels .entry)) r ⌝ }
+{
+    labels::check(net, labels)
 }
 
 // The form check of a label file beside a network file: the first number that one of them is refused by, or 0.

@@ -1,0 +1,118 @@
+//! Files that the whole check accepts: their labels are right, worked out by the model's search.
+
+use generate::files::network_bytes;
+use generate::forests::by_elimination;
+use generate::random::Random;
+use generate::right::Right;
+use model::network::{Network, Road};
+use model::units::Pair;
+
+use super::files::Files;
+
+const IDENTITY: u32 = 7;
+
+/// One pair of each kind.
+pub fn all() -> Vec<Files> {
+    let mut random = Random::new(0, 2);
+    vec![
+        files("grid, n = 100", grid(&mut random, 10, 40), order(10)),
+        files("grid, n = 400", grid(&mut random, 20, 12), order(20)),
+        files("full grid, n = 1,024", grid(&mut random, 32, 5), order(32)),
+        files(
+            "chain, n = 900",
+            chain(&mut random, 900),
+            (0..900).collect(),
+        ),
+        files("long lists, n = 31", diamonds(10), (0..31).collect()),
+    ]
+}
+
+fn files(note: &'static str, network: Network, order: Vec<usize>) -> Files {
+    let parents = by_elimination(&network, order);
+    let net = network_bytes(&network);
+    let labels = Right::new(network, parents).file.bytes();
+    Files { note, net, labels }
+}
+
+fn network(junctions: usize, mut roads: Vec<Road>) -> Network {
+    roads.sort_by_key(|road| (road.lower, road.higher));
+    Network {
+        junctions,
+        identity: IDENTITY,
+        roads,
+    }
+}
+
+fn road(one: usize, other: usize, time: u32, energy: u32) -> Road {
+    Road {
+        lower: one.min(other),
+        higher: one.max(other),
+        pair: Pair::new(time, energy),
+    }
+}
+
+/// A square of junctions, each joined to its right and lower neighbours.
+fn grid(random: &mut Random, side: usize, most: usize) -> Network {
+    let mut roads = Vec::new();
+    for row in 0..side {
+        for column in 0..side {
+            let here = row * side + column;
+            let mut figure = || 1 + random.below(most) as u32;
+            if column + 1 < side {
+                roads.push(road(here, here + 1, figure(), figure()));
+            }
+            if row + 1 < side {
+                roads.push(road(here, here + side, figure(), figure()));
+            }
+        }
+    }
+    network(side * side, roads)
+}
+
+/// Halves of the square first, then the line between them: forests stay shallow.
+fn order(side: usize) -> Vec<usize> {
+    let mut order = Vec::new();
+    dissect(side, 0..side, 0..side, &mut order);
+    order
+}
+
+fn dissect(
+    side: usize,
+    rows: std::ops::Range<usize>,
+    columns: std::ops::Range<usize>,
+    order: &mut Vec<usize>,
+) {
+    if rows.len() <= 2 && columns.len() <= 2 {
+        order.extend(rows.flat_map(|row| columns.clone().map(move |column| row * side + column)));
+    } else if rows.len() >= columns.len() {
+        let middle = (rows.start + rows.end) / 2;
+        dissect(side, rows.start..middle, columns.clone(), order);
+        dissect(side, middle + 1..rows.end, columns.clone(), order);
+        order.extend(columns.map(|column| middle * side + column));
+    } else {
+        let middle = (columns.start + columns.end) / 2;
+        dissect(side, rows.clone(), columns.start..middle, order);
+        dissect(side, rows.clone(), middle + 1..columns.end, order);
+        order.extend(rows.map(|row| row * side + middle));
+    }
+}
+
+fn chain(random: &mut Random, junctions: usize) -> Network {
+    let mut figure = || 1 + random.below(1_000) as u32;
+    let roads = (1..junctions).map(|junction| road(junction - 1, junction, figure(), figure()));
+    network(junctions, roads.collect())
+}
+
+/// One after another, places where a fast way and a frugal way part and meet again: all sums are unbeaten.
+fn diamonds(count: usize) -> Network {
+    let mut roads = Vec::new();
+    for stage in 0..count {
+        let (from, fast, frugal, to) = (3 * stage, 3 * stage + 1, 3 * stage + 2, 3 * stage + 3);
+        let cost = 1 << stage;
+        roads.push(road(from, fast, 1, 1 + cost));
+        roads.push(road(fast, to, 1, 1));
+        roads.push(road(from, frugal, 1 + cost, 1));
+        roads.push(road(frugal, to, 1, 1));
+    }
+    network(3 * count + 1, roads)
+}
