@@ -28,5 +28,5 @@ ready-for-queries {net} {s} accepting none =
       beside = form-beside-passed s (network-fits net (a .network-passes)) (a .form-passes);
       every-list-right = a .every-list-right;
       depths-filled = accepting .tables none .depths-filled;
-      starts-filled = accepting .tables none .starts-filled
+      starts-filled = accepting .tables none .starts-filled;
     }

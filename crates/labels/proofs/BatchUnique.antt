@@ -30,7 +30,7 @@ shape-of queries answers e =
     let two = unless-passed {test = eqb (length answers) (length queries)} {number = 32} (λ (z : _≡_ {A = ℕ} 32 0). omega arith) (one .1) in
     record {
       whole = eqb-true (length queries % 3) 0 (and-both (eqb (length queries % 3) 0) (leb (length queries) 3072) (one .0) .0);
-      places = eqb-true (length answers) (length queries) (two .0)
+      places = eqb-true (length answers) (length queries) (two .0);
     }
 
 -- two ways to answer the same triples write the same places
@@ -48,7 +48,6 @@ module _ (net queries : List ℕ) {a b : List ℕ} where
       same : (k : ℕ) → k < length a → getD a k 0 ≡ getD b k 0
       same k h = pick (ℕ-discrete (k % 3) 0) (ℕ-discrete (k % 3) 1)
         where
-
           below : 3 * (k / 3) < length queries
           below = omega arith
 

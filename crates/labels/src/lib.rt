@@ -53,7 +53,14 @@ pub fn batch(net: &[u8], labels: &[u8], queries: &[u32], answers: &mut [u32]) ->
     let mut starts: [u32; 1024] = [0; 1024];
     let mut heads: [u32; 1024] = [0; 1024];
     let mut nexts: [u32; 8192] = [0; 8192];
-    let number = accept::accept(net, labels, &mut depths, &mut starts, &mut heads, &mut nexts);
+    let number = accept::accept(
+        net,
+        labels,
+        &mut depths,
+        &mut starts,
+        &mut heads,
+        &mut nexts,
+    );
     if number != 0 {
         return number;
     }

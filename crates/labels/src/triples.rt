@@ -1,6 +1,6 @@
 // A batch, triple by triple.
-use query::limited::answer;
 use query::Answer;
+use query::limited::answer;
 ghost use mathlib.Core.Path.{_≡_};
 ghost use Prim.Native.Nat.{_+_, _<_};
 ghost use lib.ListN.{length};

@@ -8,10 +8,6 @@ use native.Mathlib.Omega.{arith}
 use mathlib.Core.Path.{refl}
 use Rattle.labels.proofs.triples.answer_all.Statement.{statement}
 use Rattle.labels.proofs.triples.answer_all.Tie as tie
-use Rattle.labels.proofs.triples.answer_all.Reads as reads
-use Rattle.labels.proofs.triples.answer_all.Lts as lts
-use Rattle.labels.proofs.triples.put_answer.Reads as put-answer-reads
-use Rattle.query.proofs.limited.answer.Reads as answer-reads
 
 abbrev Inv-loop : tie.InvT-loop
 Inv-loop net labels depths starts queries count answers₀ marks₀ near-times₀ near-energies₀ far-times₀ far-energies₀ i₀ answers marks near-times near-energies far-times far-energies i =
@@ -21,76 +17,60 @@ abbrev μ-loop : tie.MeasureT-loop
 μ-loop net labels depths starts queries count answers₀ marks₀ near-times₀ near-energies₀ far-times₀ far-energies₀ i₀ answers marks near-times near-energies far-times far-energies i =
     count - i
 
--- src/triples.rt:59:5
 loop-holds : tie.Need-loop-holds Inv-loop μ-loop
 loop-holds c = (omega arith, search needs, none-answered, search needs)
 
--- src/triples.rt:60:18
 mul-at : tie.Need-mul-at Inv-loop μ-loop
 mul-at c = search needs
 
--- src/triples.rt:66:13
 mul-answer : tie.Need-mul-answer Inv-loop μ-loop
 mul-answer c = search needs
 
--- src/triples.rt:66:13
 shared-slice-read-answer : tie.Need-shared-slice-read-answer Inv-loop μ-loop
 shared-slice-read-answer c = search needs
 
--- src/triples.rt:67:21
 add-answer : tie.Need-add-answer Inv-loop μ-loop
 add-answer c = search needs
 
--- src/triples.rt:67:13
 mul-answer-2 : tie.Need-mul-answer-2 Inv-loop μ-loop
 mul-answer-2 c = search needs
 
--- src/triples.rt:67:13
 shared-slice-read-answer-2 : tie.Need-shared-slice-read-answer-2 Inv-loop μ-loop
 shared-slice-read-answer-2 c = search needs
 
--- src/triples.rt:68:21
 add-answer-2 : tie.Need-add-answer-2 Inv-loop μ-loop
 add-answer-2 c = search needs
 
--- src/triples.rt:68:13
 mul-answer-3 : tie.Need-mul-answer-3 Inv-loop μ-loop
 mul-answer-3 c = search needs
 
--- src/triples.rt:68:13
 shared-slice-read-answer-3 : tie.Need-shared-slice-read-answer-3 Inv-loop μ-loop
 shared-slice-read-answer-3 c = search needs
 
--- src/triples.rt:61:13
 answer-requires : tie.Need-answer-requires Inv-loop μ-loop
 answer-requires c κs = search needs
 
--- src/triples.rt:75:9
 put-answer-requires : tie.Need-put-answer-requires Inv-loop μ-loop
 put-answer-requires c κs = search needs
 
--- src/triples.rt:76:9
 add-i : tie.Need-add-i Inv-loop μ-loop
 add-i c = search needs
 
--- src/triples.rt:59:5
 loop-less : tie.Need-loop-less Inv-loop μ-loop
 loop-less c = search needs
 
--- src/triples.rt:59:5
 loop-again : tie.Need-loop-again Inv-loop μ-loop
 loop-again c =
-    let held = c .before .before .before .before .before .before .before .before .before .before .before .before .before .before .loop .inv in
-    (omega arith,
-     held .1,
-     one-answered (held .1) (omega arith) refl (held .2) (c .before .before .before .before .answer .ensures .0) (c .before .before .put-answer .ensures),
-     search needs)
+    let held = c .before .before .before .before .before .before .before .before .before .before .before .before .before .before .loop .inv in (
+      omega arith,
+      held .1,
+      one-answered (held .1) (omega arith) refl (held .2) (c .before .before .before .before .answer .ensures .0) (c .before .before .put-answer .ensures),
+      search needs,
+    )
 
--- src/triples.rt:40:1
 same-length : tie.Need-same-length Inv-loop μ-loop
 same-length c = search needs
 
--- src/triples.rt:40:1
 returns : tie.Need-returns Inv-loop μ-loop
 returns c = search (all-answered)
 

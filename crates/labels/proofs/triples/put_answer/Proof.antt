@@ -8,55 +8,40 @@ use Prim.Native.Nat.{ℕ}
 use Rattle.labels.proofs.BatchSteps.{pair-or-zeros}
 use Rattle.labels.proofs.triples.put_answer.Statement.{statement}
 use Rattle.labels.proofs.triples.put_answer.Tie as tie
-use Rattle.labels.proofs.triples.put_answer.Reads as reads
-use Rattle.labels.proofs.triples.put_answer.Lts as lts
-use Rattle.labels.proofs.triples.code.Reads as code-reads
 
--- src/triples.rt:28:23
 enum-known-answer : tie.Need-enum-known-answer
 enum-known-answer c = search needs
 
--- src/triples.rt:29:23
 code-requires : tie.Need-code-requires
 code-requires c κs = search needs
 
--- src/triples.rt:29:9
 mul-answers : tie.Need-mul-answers
 mul-answers c = search needs
 
--- src/triples.rt:29:9
 slice-write-answers : tie.Need-slice-write-answers
 slice-write-answers c = search needs
 
--- src/triples.rt:30:17
 add-answers : tie.Need-add-answers
 add-answers c = search needs
 
--- src/triples.rt:30:9
 mul-answers-2 : tie.Need-mul-answers-2
 mul-answers-2 c = search needs
 
--- src/triples.rt:30:9
 slice-write-answers-2 : tie.Need-slice-write-answers-2
 slice-write-answers-2 c = simp length-set (omega arith)
 
--- src/triples.rt:31:17
 add-answers-2 : tie.Need-add-answers-2
 add-answers-2 c = search needs
 
--- src/triples.rt:31:9
 mul-answers-3 : tie.Need-mul-answers-3
 mul-answers-3 c = search needs
 
--- src/triples.rt:31:9
 slice-write-answers-3 : tie.Need-slice-write-answers-3
 slice-write-answers-3 c = search needs
 
--- src/triples.rt:32:9
 same-length : tie.Need-same-length
 same-length c = search needs
 
--- src/triples.rt:32:9
 returns : tie.Need-returns
 returns c =
     ⊎-elim (λ w. absurd (found-key (rw (w .2) at (c .before .match .keys2)))) (λ w. rw (w .0, w .1, c .code .ensures))
@@ -66,43 +51,33 @@ returns c =
     found-key : (_≡_ {A = ℕ} 0 1) ⊎ ((_≡_ {A = ℕ} 0 2) ⊎ (_≡_ {A = ℕ} 0 3)) → ⊥
     found-key k = ⊎-elim (λ e. omega arith) (⊎-elim (λ e. omega arith) (λ e. omega arith)) k
 
--- src/triples.rt:34:5
 mul-answers-4 : tie.Need-mul-answers-4
 mul-answers-4 c = search needs
 
--- src/triples.rt:34:5
 slice-write-answers-4 : tie.Need-slice-write-answers-4
 slice-write-answers-4 c = search needs
 
--- src/triples.rt:35:13
 add-answers-3 : tie.Need-add-answers-3
 add-answers-3 c = search needs
 
--- src/triples.rt:35:5
 mul-answers-5 : tie.Need-mul-answers-5
 mul-answers-5 c = search needs
 
--- src/triples.rt:35:5
 slice-write-answers-5 : tie.Need-slice-write-answers-5
 slice-write-answers-5 c = simp length-set (omega arith)
 
--- src/triples.rt:36:13
 add-answers-4 : tie.Need-add-answers-4
 add-answers-4 c = search needs
 
--- src/triples.rt:36:5
 mul-answers-6 : tie.Need-mul-answers-6
 mul-answers-6 c = search needs
 
--- src/triples.rt:36:5
 slice-write-answers-6 : tie.Need-slice-write-answers-6
 slice-write-answers-6 c = search needs
 
--- src/triples.rt:24:1
 same-length-2 : tie.Need-same-length-2
 same-length-2 c = search needs
 
--- src/triples.rt:24:1
 returns-2 : tie.Need-returns-2
 returns-2 c = rw (c .before .answer .given .1)
 
