@@ -1,6 +1,4 @@
 // The calls for C and Rust: functions of `labels` under C names, their statements passed on.
-use lists::JoinAnswer;
-use lists::SumAnswer;
 ghost use Rattle.labels.specs.Check.{Checked};
 
 #[no_mangle]
