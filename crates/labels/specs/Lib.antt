@@ -5,3 +5,4 @@ pub mod Batch
 pub mod Working
 pub mod Route
 pub mod List
+pub mod Demands

@@ -1,8 +1,10 @@
 -- Decimal numbers (document 01, "Program `answer`": "three decimal numbers up to 4,294,967,295, no leading zeros, one space
 -- between [...]. All text read, here or later, keeps these rules of numbers, spaces and line ends.").
 use mathlib.Core.Path.{_≡_}
-use mathlib.Core.List.{List, [], _∷_, _++_, List·Memᴰ}
-use Prim.Native.Nat.{ℕ, _+_, _-_, _*_, _≤_}
+use mathlib.Core.Bool.{cond}
+use mathlib.Core.List.{List, [], _∷_, List·Memᴰ}
+use Prim.Native.Nat.{ℕ, zero, suc, _+_, _-_, _*_, _/_, _%_, _≤_}
+use lib.Dec.{ltb}
 use lib.ListN.{length, getD}
 
 abbrev pub zeroByte : ℕ
@@ -31,12 +33,12 @@ pub record IsNumeral (bytes : List ℕ) (number : ℕ) : Type 0 where
   pub value : valueAfter 0 bytes ≡ number
   pub fits : number ≤ 4294967295
 
--- A query line: three numbers, "one space between"
-pub record IsQuery (line : List ℕ) (s t C : ℕ) : Type 0 where
-  pub first : List ℕ
-  pub second : List ℕ
-  pub third : List ℕ
-  pub spaced : line ≡ first ++ (spaceByte ∷ (second ++ (spaceByte ∷ third)))
-  pub first-is : IsNumeral first s
-  pub second-is : IsNumeral second t
-  pub third-is : IsNumeral third C
+-- The digits of a number in front of what follows, as many as the fuel allows, the most significant first
+unfoldable pub digitsBefore : ℕ → ℕ → List ℕ → List ℕ
+digitsBefore zero number rest = rest
+digitsBefore (suc fuel) number rest =
+    cond (ltb number 10) ((zeroByte + number) ∷ rest) (digitsBefore fuel (number / 10) ((zeroByte + number % 10) ∷ rest))
+
+-- The bytes a number prints as: ten digits hold every number of 32 bits
+unfoldable pub numeral : ℕ → List ℕ
+numeral number = digitsBefore 10 number []

@@ -1,0 +1,1 @@
+// What the program `answer` prints: one reply for each query line, on files that were checked once.

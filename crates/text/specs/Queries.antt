@@ -1,0 +1,26 @@
+-- Query lines (document 01, "Program `answer`": "three decimal numbers up to 4,294,967,295, no leading zeros, one space between").
+use mathlib.Core.Path.{_≡_}
+use mathlib.Core.List.{List, _∷_, _++_}
+use Prim.Native.Nat.{ℕ}
+use Rattle.text.specs.Numbers.{IsNumeral, spaceByte}
+use Rattle.text.specs.declared.QueryLine.{QueryLine}
+use Rattle.text.specs.declared.QueryLine.the-variants as case
+
+-- A query line: three numbers, "one space between"
+pub record IsQuery (line : List ℕ) (s t C : ℕ) : Type 0 where
+  pub first : List ℕ
+  pub second : List ℕ
+  pub third : List ℕ
+  pub spaced : line ≡ first ++ (spaceByte ∷ (second ++ (spaceByte ∷ third)))
+  pub first-is : IsNumeral first s
+  pub second-is : IsNumeral second t
+  pub third-is : IsNumeral third C
+
+-- "33 query text line badly formed"
+abbrev pub BadLine : List ℕ → Type 0
+BadLine line = (s t C : ℕ) → IsQuery line s t C → ⊥
+
+-- What was read of a line: its three numbers, or that it is bad
+pub data QueryRead (line : List ℕ) (r : QueryLine) : Type 0 where
+  query : (s t C : ℕ) → IsQuery line s t C → r ≡ case.Query s t C → QueryRead line r
+  bad : BadLine line → r ≡ case.Bad → QueryRead line r
