@@ -13,7 +13,7 @@ ghost use Rattle.lists.specs.Cover.{Decides};
 ghost use Rattle.files.specs.Formed.{Formed, DepthsFilled, StartsFilled, Beside, Tables};
 ghost use Rattle.exact.specs.Right.{EveryListRight};
 ghost use Rattle.exact.specs.Sweep.{AtLevel, RowOf};
-ghost use Rattle.exact.specs.Agreeing.{Room};
+ghost use Rattle.exact.specs.Agreeing.{ListRoom, Room};
 ghost use Rattle.exact.specs.Moving.{Advancing, Waiting};
 ghost use Rattle.exact.specs.Testing.{Every, AgreesBelow, AgreesAt, LevelAgrees, Ready, LevelInput};
 
@@ -341,6 +341,7 @@ fn sweep(
     requires { ⌜ Waiting (now labels) (junctionsOf (now labels)) deepest (now tops) (now places) ⌝ }
     requires { ⌜ Room (now «own_times») (now «own_energies») (now «rest_times») (now «rest_energies») (now marks) ⌝ }
     ensures { λ r. ⌜ Decides (EveryListRight (now (net .entry)) (now (labels .entry))) r ⌝ }
+    ensures { λ r. ⌜ Room (now («own_times» .exit)) (now («own_energies» .exit)) (now («rest_times» .exit)) (now («rest_energies» .exit)) (now (marks .exit)) ⌝ }
 {
     let mut d = deepest;
     while d > 0 {
@@ -368,7 +369,7 @@ fn sweep(
     true
 }
 
-// Is every stored list the trade-off list of its two junctions?
+// Is every stored list the trade-off list of its two junctions? The places for two lists are lent, since queries use them too.
 pub fn exact(
     net: &[u8],
     labels: &[u8],
@@ -376,17 +377,20 @@ pub fn exact(
     starts: &[u32; 1024],
     heads: &[u32; 1024],
     nexts: &[u32; 8192],
+    own_times: &mut [u32; 4096],
+    own_energies: &mut [u32; 4096],
+    rest_times: &mut [u32; 4096],
+    rest_energies: &mut [u32; 4096],
 ) -> bool
     requires { ⌜ Beside (now net) (now labels) ⌝ }
     requires { ⌜ Tables (now net) (now labels) (now depths) (now starts) (now heads) (now nexts) ⌝ }
+    requires { ⌜ ListRoom (now «own_times») (now «own_energies») × ListRoom (now «rest_times») (now «rest_energies») ⌝ }
     ensures { λ r. ⌜ Decides (EveryListRight (now (net .entry)) (now (labels .entry))) r ⌝ }
+    ensures { λ _.
+        ⌜ ListRoom (now («own_times» .exit)) (now («own_energies» .exit)) × ListRoom (now («rest_times» .exit)) (now («rest_energies» .exit)) ⌝ }
 {
     let mut tops: [u32; 1024] = [0; 1024];
     let mut places: [u32; 1024] = [0; 1024];
-    let mut own_times: [u32; 4096] = [0; 4096];
-    let mut own_energies: [u32; 4096] = [0; 4096];
-    let mut rest_times: [u32; 4096] = [0; 4096];
-    let mut rest_energies: [u32; 4096] = [0; 4096];
     let mut marks: [u8; 4096] = [0; 4096];
     let deepest = begin(labels, depths, starts, &mut tops, &mut places);
     sweep(
@@ -399,10 +403,10 @@ pub fn exact(
         deepest,
         &mut tops,
         &mut places,
-        &mut own_times,
-        &mut own_energies,
-        &mut rest_times,
-        &mut rest_energies,
+        own_times,
+        own_energies,
+        rest_times,
+        rest_energies,
         &mut marks,
     )
 }

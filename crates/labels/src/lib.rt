@@ -23,6 +23,10 @@ pub fn check(net: &[u8], labels: &[u8]) -> u32
     let mut starts: [u32; 1024] = [0; 1024];
     let mut heads: [u32; 1024] = [0; 1024];
     let mut nexts: [u32; 8192] = [0; 8192];
+    let mut near_times: [u32; 4096] = [0; 4096];
+    let mut near_energies: [u32; 4096] = [0; 4096];
+    let mut far_times: [u32; 4096] = [0; 4096];
+    let mut far_energies: [u32; 4096] = [0; 4096];
     accept::accept(
         net,
         labels,
@@ -30,6 +34,10 @@ pub fn check(net: &[u8], labels: &[u8]) -> u32
         &mut starts,
         &mut heads,
         &mut nexts,
+        &mut near_times,
+        &mut near_energies,
+        &mut far_times,
+        &mut far_energies,
     )
 }
 
@@ -39,6 +47,15 @@ pub fn batch(net: &[u8], labels: &[u8], queries: &[u32], answers: &mut [u32]) ->
     ensures { λ r.
         ⌜ BatchDone (now (net .entry)) (now (labels .entry)) (now (queries .entry)) (now (answers .entry)) r (now (answers .exit)) ⌝ }
 {
+    let mut depths: [u32; 1024] = [0; 1024];
+    let mut starts: [u32; 1024] = [0; 1024];
+    let mut heads: [u32; 1024] = [0; 1024];
+    let mut nexts: [u32; 8192] = [0; 8192];
+    let mut marks: [u8; 1024] = [0; 1024];
+    let mut near_times: [u32; 4096] = [0; 4096];
+    let mut near_energies: [u32; 4096] = [0; 4096];
+    let mut far_times: [u32; 4096] = [0; 4096];
+    let mut far_energies: [u32; 4096] = [0; 4096];
     let length = queries.len();
     if length % 3 != 0 {
         return 31;
@@ -49,10 +66,6 @@ pub fn batch(net: &[u8], labels: &[u8], queries: &[u32], answers: &mut [u32]) ->
     if answers.len() != length {
         return 32;
     }
-    let mut depths: [u32; 1024] = [0; 1024];
-    let mut starts: [u32; 1024] = [0; 1024];
-    let mut heads: [u32; 1024] = [0; 1024];
-    let mut nexts: [u32; 8192] = [0; 8192];
     let number = accept::accept(
         net,
         labels,
@@ -60,11 +73,28 @@ pub fn batch(net: &[u8], labels: &[u8], queries: &[u32], answers: &mut [u32]) ->
         &mut starts,
         &mut heads,
         &mut nexts,
+        &mut near_times,
+        &mut near_energies,
+        &mut far_times,
+        &mut far_energies,
     );
     if number != 0 {
         return number;
     }
-    triples::answer_all(net, labels, &depths, &starts, queries, length / 3, answers);
+    triples::answer_all(
+        net,
+        labels,
+        &depths,
+        &starts,
+        queries,
+        length / 3,
+        answers,
+        &mut marks,
+        &mut near_times,
+        &mut near_energies,
+        &mut far_times,
+        &mut far_energies,
+    );
     0
 }
 

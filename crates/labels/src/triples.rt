@@ -5,7 +5,7 @@ ghost use mathlib.Core.Path.{_≡_};
 ghost use Prim.Native.Nat.{_+_, _<_};
 ghost use lib.ListN.{length};
 ghost use Rattle.query.specs.Answers.{numberOf, timeOf, energyOf};
-ghost use Rattle.query.specs.Prepared.{Prepared};
+ghost use Rattle.query.specs.Prepared.{Prepared, Lent};
 ghost use Rattle.labels.specs.Working.{putTriple, AnsweredTo, Triples};
 
 // "21, 22, 23"; 0 for a found pair.
@@ -36,7 +36,7 @@ fn put_answer(answers: &mut [u32], at: usize, answer: Answer)
     answers[at + 2] = units.0;
 }
 
-// Answers every triple; the scratch is made once for the whole batch.
+// Answers every triple, over the same lent places.
 pub fn answer_all(
     net: &[u8],
     labels: &[u8],
@@ -45,16 +45,17 @@ pub fn answer_all(
     queries: &[u32],
     count: usize,
     answers: &mut [u32],
+    marks: &mut [u8; 1024],
+    near_times: &mut [u32; 4096],
+    near_energies: &mut [u32; 4096],
+    far_times: &mut [u32; 4096],
+    far_energies: &mut [u32; 4096],
 )
     requires { ⌜ Prepared (now net) (now labels) (now depths) (now starts) ⌝ }
     requires { ⌜ Triples (now queries) (now answers) count ⌝ }
+    requires { ⌜ Lent (now marks) (now «near_times») (now «near_energies») (now «far_times») (now «far_energies») ⌝ }
     ensures { λ _. ⌜ AnsweredTo (now (net .entry)) (now (queries .entry)) (now (answers .entry)) (now (answers .exit)) count ⌝ }
 {
-    let mut marks: [u8; 1024] = [0; 1024];
-    let mut near_times: [u32; 4096] = [0; 4096];
-    let mut near_energies: [u32; 4096] = [0; 4096];
-    let mut far_times: [u32; 4096] = [0; 4096];
-    let mut far_energies: [u32; 4096] = [0; 4096];
     let mut i = 0;
     while i < count {
         let at = 3 * i;
@@ -66,11 +67,11 @@ pub fn answer_all(
             queries[at],
             queries[at + 1],
             queries[at + 2],
-            &mut marks,
-            &mut near_times,
-            &mut near_energies,
-            &mut far_times,
-            &mut far_energies,
+            marks,
+            near_times,
+            near_energies,
+            far_times,
+            far_energies,
         );
         put_answer(answers, at, found);
         i += 1;

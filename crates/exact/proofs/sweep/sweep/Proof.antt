@@ -41,7 +41,7 @@ returns : tie.Need-returns Inv-loop μ-loop
 returns c =
     let moved = c .before .before .before .before .before .before .before .before .before in
     let turn = moved .before .before .before .before in
-    level-fails (turn .before .before .before .pre .0) (turn .loop .inv .0) (c .before .level .ensures .0) (c .if1 .taken)
+    (level-fails (turn .before .before .before .pre .0) (turn .loop .inv .0) (c .before .level .ensures .0) (c .if1 .taken), c .before .level .ensures .1)
 
 loop-less : tie.Need-loop-less Inv-loop μ-loop
 loop-less c = search needs
@@ -53,7 +53,7 @@ loop-again c =
     (descending-more (turn .loop .inv .0) (c .before .level .ensures .0) (c .if1 .left), moved .advance .ensures, c .before .level .ensures .1)
 
 returns-2 : tie.Need-returns-2 Inv-loop μ-loop
-returns-2 c = levels-end (c .before .before .before .before .pre .0) (c .before .loop .inv .0) (c .loop-test .left)
+returns-2 c = (levels-end (c .before .before .before .before .pre .0) (c .before .loop .inv .0) (c .loop-test .left), c .before .loop .inv .2)
 
 pub sweep-spec : {M : Type 1} → statement M
 sweep-spec =
