@@ -6,7 +6,3 @@ pub mod LoadedLists
 pub mod MarkedSums
 pub mod WholeAnswers
 pub mod AnswersUnique
-pub mod Searching
-pub mod RouteSteps
-pub mod RouteWay
-pub mod ListSteps

@@ -6,7 +6,3 @@ pub mod Meeting
 pub mod Marking
 pub mod AnswerFrom
 pub mod Levels
-pub mod Reach
-pub mod Searched
-pub mod Steps
-pub mod Written

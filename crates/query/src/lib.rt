@@ -1,5 +1,5 @@
-// Queries on an accepted label set, with the tables of one call at hand: the best answer under a limit, the whole trade-off list,
-// the first route. Every function here stands on an accepted set, so that ten thousand queries cost one check.
+// Queries on an accepted label set, with the tables of one call at hand: the best answer under a limit. Every function here stands on
+// an accepted set, so that ten thousand queries cost one check.
 use paths::energy::Energy;
 use paths::seconds::Seconds;
 
@@ -21,7 +21,4 @@ pub mod across;
 pub mod direct;
 pub mod hoplinks;
 pub mod limited;
-pub mod list;
 pub mod meet;
-pub mod reach;
-pub mod route;

@@ -1,0 +1,5 @@
+-- Why a route is the first and a list is whole. Read in this order.
+pub mod Searching
+pub mod RouteSteps
+pub mod RouteWay
+pub mod ListSteps

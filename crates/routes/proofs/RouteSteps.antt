@@ -1,0 +1,224 @@
+-- One step of the first route: of the roads of a junction, the first in file order after which the rest can be spent begins it.
+-- In this order: what is left after a road; the search for the road; the step.
+use mathlib.Core.Path.{_≡_, refl, sym, ap, ap₂, _∙_}
+use mathlib.Core.Logic.{_↔_}
+use mathlib.Core.Bool.{Bool, true, false}
+use mathlib.Core.List.{List, [], _∷_}
+use Prim.Native.Nat.{ℕ, suc, _+_, _-_, _≤_, _<_}
+use native.Mathlib.Decide.{decLe, ℕ-discrete}
+use native.Mathlib.Omega.{arith}
+use lib.Dec.{ltb}
+use lib.ListN.{getD}
+use borrow.Author.Tests.{ltb-true, ltb-false}
+use Rattle.paths.specs.Weights.{weights, energy, pair, time, spent}
+use Rattle.paths.specs.Network.{Walk, stay, go, weight}
+use Rattle.paths.specs.TradeOff.{Skyline}
+use Rattle.paths.specs.Route.{FirstRoute}
+use Rattle.paths.proofs.Figures.{number-lawful}
+use Rattle.paths.proofs.Weights.{weights-lawful, ⊕-cancel-eq-right}
+use Rattle.paths.proofs.RouteStep.{RestWanted, Smallest, firstAmong-same, first-step, rest-of-only-arc, covering-spends, rest-skyline}
+use Rattle.network.specs.NetworkFile.{junctionsOf, roadsOf, roadTime, roadEnergy, RoadArc, networkOf}
+use Rattle.network.specs.Roads.{touches, otherEnd, nextRoad, Grouped}
+use Rattle.network.specs.RoadsRead.{NextsFilled}
+use Rattle.network.specs.Fits.{NetworkFits}
+use Rattle.network.proofs.Arcs.{one-weight}
+use Rattle.network.proofs.GroupedRoads.{nexts-filled}
+use Rattle.network.proofs.RoadsAt.{nextRoad-low, nextRoad-bound, nextRoad-touches, nextRoad-passed, touches-arc, arc-touches, others-rise}
+use Rattle.lists.specs.Cover.{Decides}
+use Rattle.routes.specs.Reach.{PathWithin}
+use Rattle.routes.specs.Steps.{StepFits, StepRoad}
+
+-- ---- What is left after a road
+
+-- The pair of road k
+abbrev pub roadPair : List ℕ → ℕ → weights energy .Figure
+roadPair net k = pair (roadTime net k) (roadEnergy net k)
+
+-- a road and what is left make up the whole
+pub rest-adds :
+    (net : List ℕ) (k : ℕ) {seconds units : ℕ} → roadTime net k ≤ seconds → roadEnergy net k ≤ units →
+    weights energy ._⊕_ (roadPair net k) (pair (seconds - roadTime net k) (units - roadEnergy net k)) ≡ pair seconds units
+rest-adds net k h g = ap₂ pair (omega arith) (omega arith)
+
+-- a test that fails leaves the other order
+pub not-below : {a b : ℕ} {answer : Bool} → answer ≡ ltb a b → answer ≡ false → b ≤ a
+not-below {a} {b} e f = ltb-false a b (sym e ∙ f)
+
+-- a road that takes too long does not fit
+pub too-slow :
+    {net : List ℕ} {x y k seconds units takes : ℕ} {answer : Bool} → takes ≡ roadTime net k → answer ≡ ltb seconds takes → answer ≡ true →
+    Decides (StepFits net x y k seconds units) false
+too-slow {seconds = seconds} {takes = takes} e f g =
+    let late : seconds < takes = ltb-true seconds takes (sym f ∙ g) in
+    record { holds = λ q. let z : _≡_ {A = ℕ} 0 1 = cc in absurd (omega arith); fails = λ q step. omega (arith, step .time-fits) }
+
+-- a road that spends too much does not fit
+pub too-costly :
+    {net : List ℕ} {x y k seconds units spends : ℕ} {answer : Bool} → spends ≡ roadEnergy net k → answer ≡ ltb units spends → answer ≡ true →
+    Decides (StepFits net x y k seconds units) false
+too-costly {units = units} {spends = spends} e f g =
+    let over : units < spends = ltb-true units spends (sym f ∙ g) in
+    record { holds = λ q. let z : _≡_ {A = ℕ} 0 1 = cc in absurd (omega arith); fails = λ q step. omega (arith, step .energy-fits) }
+
+-- A road of x that fits
+record SomeStep (net : List ℕ) (x y seconds units : ℕ) : Type 0 where
+  road : ℕ
+  stands : road < roadsOf net
+  at-start : touches net x road ≡ true
+  step : StepFits net x y road seconds units
+
+-- No road of x before k fits, and k is a road of x or behind the last
+pub record RoadSearch (net : List ℕ) (x y seconds units k : ℕ) : Type 0 where
+  pub at-start : k < roadsOf net → touches net x k ≡ true
+  pub none-before : (j : ℕ) → j < k → touches net x j ≡ true → StepFits net x y j seconds units → ⊥
+
+-- of any other road the answer is whether its other end reaches y within the rest
+pub step-decided :
+    {net : List ℕ} {x y k seconds units takes spends next left rest : ℕ} {in-time in-units answer : Bool} →
+    takes ≡ roadTime net k → in-time ≡ ltb seconds takes → in-time ≡ false →
+    spends ≡ roadEnergy net k → in-units ≡ ltb units spends → in-units ≡ false →
+    next ≡ otherEnd net x k → left ≡ seconds - takes → rest ≡ units - spends →
+    Decides (PathWithin net next y (pair left rest)) answer → Decides (StepFits net x y k seconds units) answer
+step-decided {net} {x} {y} {k} {seconds} {units} {takes} {spends} {next} {left} {rest} takes-is early early-is spends-is cheap cheap-is e f g decides =
+    record {
+      holds = λ q. record { time-fits = rw (← takes-is) quick; energy-fits = rw (← spends-is) frugal; within = rw (← same) (decides .holds q) };
+      fails = λ q step. decides .fails q (rw same (step .within));
+    }
+  where
+    quick : takes ≤ seconds
+    quick = not-below early early-is
+
+    frugal : spends ≤ units
+    frugal = not-below cheap cheap-is
+
+    same : PathWithin net next y (pair left rest) ≡ PathWithin net (otherEnd net x k) y (pair (seconds - roadTime net k) (units - roadEnergy net k))
+    same = rw (e, f, g, takes-is, spends-is)
+
+-- what the road after one of x is asked with
+pub road-follows :
+    {net heads nexts : List ℕ} {x y k seconds units : ℕ} → NetworkFits net → Grouped net heads nexts → RoadSearch net x y seconds units k →
+    k < roadsOf net → NetworkFits net × NextsFilled net nexts × (k < roadsOf net) × (touches net x k ≡ true)
+road-follows fits grouped now h =
+    (fits, nexts-filled grouped, h, now .at-start h)
+
+module _ {net : List ℕ} (fits : NetworkFits net) where
+  -- a first arc whose rest is walked fits
+  arc-fits :
+      {x v y k seconds units : ℕ} {w : weights energy .Figure} → RoadArc net x v k w → (rest : Walk (networkOf net) v y) →
+      weights energy ._⊕_ w (weight rest) ≡ pair seconds units → StepFits net x y k seconds units
+  arc-fits {x} {v} {y} {k} {seconds} {units} {w} a rest e =
+      let takes : time energy w ≡ roadTime net k = ap (time energy) (a .weighs) in
+      let spends : spent energy w ≡ roadEnergy net k = ap (spent energy) (a .weighs) in
+      let sum-time : time energy w + time energy (weight rest) ≡ seconds = ap (time energy) e in
+      let sum-energy : spent energy w + spent energy (weight rest) ≡ units = ap (spent energy) e in
+      record {
+        time-fits = omega arith;
+        energy-fits = omega arith;
+        within = rw (← arc-touches fits a .1) (record { walk = rest; no-larger = (omega arith, omega arith) });
+      }
+
+  -- a walk of that weight to another junction begins with one
+  walk-steps : {x y seconds units : ℕ} (w : Walk (networkOf net) x y) → (x ≡ y → ⊥) → weight w ≡ pair seconds units → SomeStep net x y seconds units
+  unfolding weight
+  walk-steps stay apart e = absurd (apart refl)
+  walk-steps (go {r = k} a rest) apart e =
+      record { road = k; stands = a .stands; at-start = arc-touches fits a .0; step = arc-fits a rest e }
+
+  -- ---- The search for the road
+
+  -- the first road of x
+  pub search-start :
+      {x y seconds units k : ℕ} {heads nexts : List ℕ} → Grouped net heads nexts → x < junctionsOf net → k ≡ getD heads x 0 →
+      RoadSearch net x y seconds units k
+  search-start {x} grouped on-map e =
+      rw (e, grouped .head x on-map) (
+      record {
+        at-start = λ h. nextRoad-touches net x 0 h;
+        none-before = λ j h here step. let z = nextRoad-passed net x 0 j here h in absurd (omega arith);
+      })
+
+  -- the road that follows one that does not fit
+  pub search-more :
+      {x y seconds units k next : ℕ} → RoadSearch net x y seconds units k → (StepFits net x y k seconds units → ⊥) → next ≡ nextRoad net x (suc k) →
+      RoadSearch net x y seconds units next
+  search-more {x} {y} {seconds} {units} {k} now unfit e =
+      rw e (
+      record {
+        at-start = λ h. nextRoad-touches net x (suc k) h;
+        none-before = λ j h here step. earlier j here step (nextRoad-passed net x (suc k) j here h) (ℕ-discrete j k);
+      })
+    where
+      earlier : (j : ℕ) → touches net x j ≡ true → StepFits net x y j seconds units → j < suc k → Dec (j ≡ k) → ⊥
+      earlier j here step h (yes same) = unfit (rw same at step)
+      earlier j here step h (no apart) = now .none-before j (omega arith) here step
+
+  -- comes later
+  pub search-later : (x : ℕ) {k next : ℕ} → next ≡ nextRoad net x (suc k) → k < next
+  search-later x {k} e = omega (arith, nextRoad-low net x (suc k), e)
+
+  -- the road is found
+  pub search-found :
+      {x y seconds units k : ℕ} → RoadSearch net x y seconds units k → k < roadsOf net → StepFits net x y k seconds units → StepRoad net x y k seconds units
+  search-found now h step = record { stands = h; at-start = now .at-start h; fits = step; none-before = now .none-before }
+
+  -- an unbeaten pair is spent by a walk, so the search ends before the last road
+  pub search-never :
+      {x y seconds units k : ℕ} → RoadSearch net x y seconds units k → roadsOf net ≤ k → (x ≡ y → ⊥) →
+      Skyline (networkOf net) x y (pair seconds units) → ⊥
+  search-never now h apart line =
+      let some = walk-steps (line .walk) apart (line .weighs) in
+      now .none-before (some .road) (omega (arith, some .stands)) (some .at-start) (some .step)
+
+  -- ---- The step
+
+  module _ {x y k seconds units : ℕ} (line : Skyline (networkOf net) x y (pair seconds units)) (step : StepRoad net x y k seconds units) where
+    -- the road as an arc
+    pub step-arc : RoadArc net x (otherEnd net x k) k (roadPair net k)
+    step-arc = touches-arc fits x k (step .stands) (step .at-start)
+
+    abbrev rest : Walk (networkOf net) (otherEnd net x k) y
+    rest = step .fits .within .walk
+
+    covers : weights energy ._⊑_ (weights energy ._⊕_ (roadPair net k) (weight rest)) (pair seconds units)
+    covers =
+        let small-energy : spent energy (weight rest) ≤ units - roadEnergy net k = step .fits .within .no-larger .0 in
+        let small-time : time energy (weight rest) ≤ seconds - roadTime net k = step .fits .within .no-larger .1 in
+        (omega (arith, step .fits .energy-fits), omega (arith, step .fits .time-fits))
+
+    -- the road and the rest are the whole
+    pub step-whole : weights energy ._⊕_ (roadPair net k) (pair (seconds - roadTime net k) (units - roadEnergy net k)) ≡ pair seconds units
+    step-whole = rest-adds net k (step .fits .time-fits) (step .fits .energy-fits)
+
+    rest-weighs : weight rest ≡ pair (seconds - roadTime net k) (units - roadEnergy net k)
+    rest-weighs =
+        ⊕-cancel-eq-right (weights-lawful number-lawful) (roadPair net k) (covering-spends number-lawful line step-arc rest covers ∙ sym step-whole)
+
+    -- the rest is unbeaten
+    pub step-line : Skyline (networkOf net) (otherEnd net x k) y (pair (seconds - roadTime net k) (units - roadEnergy net k))
+    step-line = rw rest-weighs at (rest-skyline number-lawful line step-arc rest covers)
+
+    -- no junction before the road's other end has a walk that spends the rest
+    smallest : Smallest (networkOf net) (λ z. z ≡ pair seconds units) x y (otherEnd net x k)
+    smallest v w other = pick (decLe (other .number) k) (ℕ-discrete (other .number) k)
+      where
+        ends : v ≡ otherEnd net x (other .number)
+        ends = arc-touches fits (other .arc) .1
+
+        pick : Dec (other .number ≤ k) → Dec (other .number ≡ k) → otherEnd net x k ≤ v
+        pick d (yes same) = rw (ends, same) (omega arith)
+        pick (yes h) (no apart) =
+            absurd (step .none-before (other .number) (omega arith) (arc-touches fits (other .arc) .0) (arc-fits (other .arc) w (other .wanted)))
+        pick (no h) (no apart) =
+            omega (
+              arith,
+              ends,
+              others-rise fits x k (other .number) (omega arith) (other .arc .stands) (step .at-start) (arc-touches fits (other .arc) .0),
+            )
+
+    -- the first route of the rest, with x before it, is the first route of the whole
+    pub step-route :
+        (x ≡ y → ⊥) → {ks : List ℕ} →
+        FirstRoute (networkOf net) (otherEnd net x k) y (pair (seconds - roadTime net k) (units - roadEnergy net k)) ks →
+        FirstRoute (networkOf net) x y (pair seconds units) (x ∷ ks)
+    step-route apart z =
+        first-step apart (firstAmong-same (λ w. let same = rest-of-only-arc number-lawful (networkOf net) step-arc (λ n p a. one-weight fits a step-arc) step-whole (weight w) in (same .1, same .0)) z) smallest

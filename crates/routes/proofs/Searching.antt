@@ -1,0 +1,410 @@
+-- The search for an entry, or for a sum of two entries, that takes no more than a pair in either figure.
+-- In this order: lists in the file; down a list; one list; two lists; level by level; what the paths have.
+use mathlib.Core.Path.{_≡_, refl, sym, ap, _∙_}
+use mathlib.Core.Bool.{Bool, true, false}
+use mathlib.Core.List.{List, List·Memᴰ}
+use Prim.Native.Nat.{ℕ, zero, suc, _+_, _-_, _*_, _≤_, _<_}
+use native.Mathlib.Decide.{decLe, ℕ-discrete}
+use native.Mathlib.Omega.{arith}
+use lib.Dec.{leb}
+use lib.ListN.{length, getD}
+use borrow.Author.Tests.{leb-true, leb-false}
+use Rattle.paths.specs.Weights.{weights, energy, pair, time, spent}
+use Rattle.paths.specs.Network.{stay, weight}
+use Rattle.paths.specs.TradeOff.{IsTradeOff, IsSum}
+use Rattle.paths.specs.Forest.{Above, Common}
+use Rattle.paths.proofs.Crossing.{apart-without-common}
+use Rattle.network.specs.NetworkFile.{networkOf}
+use Rattle.lists.specs.Entries.{Weight}
+use Rattle.lists.specs.Cover.{Decides}
+use Rattle.files.specs.LabelFile.{parentsOf, countAt, timeAt, energyAt, listEnd}
+use Rattle.files.specs.Forest.{depthOf}
+use Rattle.files.specs.Stored.{listAt, stored}
+use Rattle.files.specs.Formed.{Formed, ListFits}
+use Rattle.files.specs.Scanned.{FoundList}
+use Rattle.files.proofs.Tabulate.{Stands, member-stands, tabulate-member}
+use Rattle.exact.proofs.Exactness.{parents-forest, roads-joined}
+use Rattle.query.specs.Prepared.{Prepared}
+use Rattle.query.specs.Meeting.{MeetsAt, HopMarks}
+use Rattle.query.specs.AnswerFrom.{EntryOf}
+use Rattle.query.specs.Levels.{behind, LevelSum, MarkedSum, Branches}
+use Rattle.routes.specs.Reach.{PathWithin}
+use Rattle.routes.specs.Searched.{HasWithin, FittingFrom, CoversAt, Asked}
+use Rattle.query.proofs.MarkedSums.{level-place, level-next, level-fits}
+use Rattle.query.proofs.WholeAnswers.{StandsFor, proper, tradeOff-stands, stored-up, stored-down, marked-stands}
+
+-- false is not true
+not-both : {A : Type 0} → _≡_ {A = Bool} false true → A
+not-both q = let z : _≡_ {A = ℕ} 0 1 = cc in absurd (omega arith)
+
+-- ---- Lists in the file
+
+-- the entry at place j
+abbrev entry : List ℕ → ℕ → ℕ → Weight
+entry s at j = pair (timeAt s at j) (energyAt s at j)
+
+module _ {s : List ℕ} {at : ℕ} (fits : ListFits s at) where
+  -- every entry stands in the file
+  pub entry-inside : {j : ℕ} → j < countAt s at → at + 10 + 8 * j ≤ length s
+  unfolding listEnd
+  entry-inside h = omega (arith, fits .inside)
+
+  -- and so does the count
+  pub count-stands : at + 2 ≤ length s
+  unfolding listEnd
+  count-stands = omega (arith, fits .inside)
+
+  -- energies rise and times fall from each place to any later one
+  energies-rise : (i j : ℕ) → i ≤ j → j < countAt s at → energyAt s at i ≤ energyAt s at j
+  energies-rise i zero h k = rw first (omega arith)
+    where
+      first : i ≡ 0
+      first = omega arith
+  energies-rise i (suc j) h k = pick (λ m. energies-rise i j m (omega arith)) (ℕ-discrete i (suc j))
+    where
+      pick : (i ≤ j → energyAt s at i ≤ energyAt s at j) → Dec (i ≡ suc j) → energyAt s at i ≤ energyAt s at (suc j)
+      pick before (yes same) = rw same (omega arith)
+      pick before (no apart) = omega (arith, before (omega arith), fits .energy-rises j k)
+
+  times-fall : (i j : ℕ) → i ≤ j → j < countAt s at → timeAt s at j ≤ timeAt s at i
+  times-fall i zero h k = rw first (omega arith)
+    where
+      first : i ≡ 0
+      first = omega arith
+  times-fall i (suc j) h k = pick (λ m. times-fall i j m (omega arith)) (ℕ-discrete i (suc j))
+    where
+      pick : (i ≤ j → timeAt s at j ≤ timeAt s at i) → Dec (i ≡ suc j) → timeAt s at (suc j) ≤ timeAt s at i
+      pick before (yes same) = rw same (omega arith)
+      pick before (no apart) = omega (arith, before (omega arith), fits .time-falls j k)
+
+-- ---- Down a list
+
+-- From place j on no entry below `from` fits
+pub record Down (s : List ℕ) (at beside units from j : ℕ) : Type 0 where
+  pub in-range : j ≤ from
+  pub over : (k : ℕ) → j ≤ k → k < from → units < beside + energyAt s at k
+
+-- none is passed yet
+pub down-start : (s : List ℕ) (at beside units from : ℕ) → Down s at beside units from from
+down-start s at beside units from = record { in-range = omega arith; over = λ k h g. absurd (omega arith) }
+
+module _ {s : List ℕ} {at beside units from j : ℕ} (now : Down s at beside units from j) where
+  -- the entry before fits
+  pub down-found :
+      {last sum : ℕ} {answer : Bool} → 0 < j → last ≡ energyAt s at (j - 1) → sum ≡ beside + last → answer ≡ leb sum units → answer ≡ true →
+      FittingFrom s at beside units from j
+  down-found {sum = sum} some last-is sum-is e f =
+      let in-units : sum ≤ units = leb-true sum units (sym e ∙ f) in
+      record { in-range = now .in-range; over = now .over; fits = λ h. omega arith }
+
+  -- the entry before does not fit
+  pub down-more :
+      {last sum : ℕ} {answer : Bool} → 0 < j → last ≡ energyAt s at (j - 1) → sum ≡ beside + last → answer ≡ leb sum units → answer ≡ false →
+      Down s at beside units from (j - 1)
+  down-more {sum = sum} some last-is sum-is e f =
+      record { in-range = omega (arith, now .in-range); over = λ k h g. pick k h g (ℕ-discrete k (j - 1)) }
+    where
+      beyond : units < sum
+      beyond = leb-false sum units (sym e ∙ f)
+
+      pick : (k : ℕ) → j - 1 ≤ k → k < from → Dec (k ≡ j - 1) → units < beside + energyAt s at k
+      pick k h g (yes same) = rw same (omega (arith, beyond, sum-is, last-is))
+      pick k h g (no apart) = now .over k (omega arith) g
+
+  -- no entry fits
+  pub down-end : j ≤ 0 → FittingFrom s at beside units from j
+  down-end h = record { in-range = now .in-range; over = now .over; fits = λ some. absurd (omega arith) }
+
+-- ---- One list
+
+module _ {s : List ℕ} {at seconds units from j : ℕ} (fits : ListFits s at) (from-is : from ≡ countAt s at) (fitting : FittingFrom s at 0 units from j) where
+  -- no entry fits: none covers the pair
+  pub list-none : j ≡ 0 → Decides (HasWithin (EntryOf (listAt s at)) (pair seconds units)) false
+  list-none e =
+      record {
+        holds = λ q. not-both q;
+        fails = λ q some.
+            let z = member-stands (entry s at) (countAt s at) (some .among .member) in
+            let spends : spent energy (some .one) ≡ energyAt s at (z .place) = ap (spent energy) (z .is) in
+            omega (arith, fitting .over (z .place) (omega arith) (omega (arith, z .below)), some .no-larger .0);
+      }
+
+  -- the last entry that fits has the least time of them
+  pub list-decides :
+      {last : ℕ} {answer : Bool} → (j ≡ 0 → ⊥) → last ≡ timeAt s at (j - 1) → answer ≡ leb last seconds →
+      Decides (HasWithin (EntryOf (listAt s at)) (pair seconds units)) answer
+  list-decides {last} {answer} some last-is e =
+      record {
+        holds = λ q.
+            let quick : last ≤ seconds = leb-true last seconds (sym e ∙ q) in
+            record {
+              one = entry s at (j - 1);
+              among = record { member = tabulate-member (entry s at) (countAt s at) {i = j - 1} (omega (arith, fitting .in-range)) };
+              no-larger = (omega (arith, fitting .fits (omega arith)), omega arith);
+            };
+        fails = λ q other.
+            let late : seconds < last = leb-false last seconds (sym e ∙ q) in
+            let z = member-stands (entry s at) (countAt s at) (other .among .member) in
+            let spends : spent energy (other .one) ≡ energyAt s at (z .place) = ap (spent energy) (z .is) in
+            let takes : time energy (other .one) ≡ timeAt s at (z .place) = ap (time energy) (z .is) in
+            pick late (z .place) (z .below) (omega (arith, other .no-larger .0)) (omega (arith, other .no-larger .1)) (decLe j (z .place));
+      }
+    where
+      pick : seconds < last → (k : ℕ) → k < countAt s at → energyAt s at k ≤ units → timeAt s at k ≤ seconds → Dec (j ≤ k) → ⊥
+      pick late k below in-units in-time (yes h) = omega (arith, fitting .over k h (omega arith))
+      pick late k below in-units in-time (no h) = omega (arith, times-fall fits k (j - 1) (omega arith) (omega (arith, fitting .in-range)), last-is)
+
+-- ---- Two lists
+
+-- Of the sums with the near list's first i entries none takes so little; from place j on no entry of the far list fits beside a later one
+pub record Pairing (s : List ℕ) (near far seconds units count i j : ℕ) : Type 0 where
+  pub few : i ≤ count
+  pub in-far : j ≤ countAt s far
+  pub over : (a k : ℕ) → i ≤ a → a < countAt s near → j ≤ k → k < countAt s far → units < energyAt s near a + energyAt s far k
+  pub none : (a k : ℕ) → a < i → k < countAt s far → timeAt s near a + timeAt s far k ≤ seconds → energyAt s near a + energyAt s far k ≤ units → ⊥
+
+-- none is tried yet
+pub pairing-start : (s : List ℕ) (near far seconds units count : ℕ) {j : ℕ} → j ≡ countAt s far → Pairing s near far seconds units count 0 j
+pairing-start s near far seconds units count e =
+    record { few = omega arith; in-far = omega arith; over = λ a k h g m n. absurd (omega arith); none = λ a k h g m n. absurd (omega arith) }
+
+module _ {s : List ℕ} {near far seconds units count i j r beside : ℕ} (near-fits : ListFits s near) (far-fits : ListFits s far)
+    (now : Pairing s near far seconds units count i j) (h : i < count) (few : count ≤ countAt s near) (beside-is : beside ≡ energyAt s near i)
+    (fitting : FittingFrom s far beside units j r) where
+  -- the entries from r on are over beside entry i
+  beyond : (k : ℕ) → r ≤ k → k < countAt s far → units < energyAt s near i + energyAt s far k
+  beyond k g m = pick (decLe j k)
+    where
+      pick : Dec (j ≤ k) → units < energyAt s near i + energyAt s far k
+      pick (yes later) = now .over i k (omega arith) (omega arith) later m
+      pick (no sooner) = omega (arith, fitting .over k g (omega arith), beside-is)
+
+  -- the last that fits is the quickest, so entry i makes no sum
+  pub pairing-more : (CoversAt s near i far r seconds → ⊥) → Pairing s near far seconds units count (i + 1) r
+  pairing-more uncovered =
+      record {
+        few = omega arith;
+        in-far = omega (arith, fitting .in-range, now .in-far);
+        over = λ a k g m n o. omega (arith, beyond k n o, energies-rise near-fits i a (omega arith) m);
+        none = λ a k g m in-time in-units. pick a k g m in-time in-units (ℕ-discrete a i) (decLe r k);
+      }
+    where
+      slow : 0 < r → seconds < timeAt s near i + timeAt s far (r - 1)
+      slow some = which (decLe (timeAt s near i + timeAt s far (r - 1)) seconds)
+        where
+          which : Dec (timeAt s near i + timeAt s far (r - 1) ≤ seconds) → seconds < timeAt s near i + timeAt s far (r - 1)
+          which (yes quick) = absurd (uncovered (record { some = some; quick = quick }))
+          which (no late) = omega arith
+
+      pick :
+          (a k : ℕ) → a < i + 1 → k < countAt s far → timeAt s near a + timeAt s far k ≤ seconds → energyAt s near a + energyAt s far k ≤ units →
+          Dec (a ≡ i) → Dec (r ≤ k) → ⊥
+      pick a k g m in-time in-units (no apart) d = now .none a k (omega arith) m in-time in-units
+      pick a k g m in-time in-units (yes same) (yes later) =
+          let spends : energyAt s near i + energyAt s far k ≤ units = rw same at in-units in
+          omega (arith, beyond k later m)
+      pick a k g m in-time in-units (yes same) (no sooner) =
+          let takes : timeAt s near i + timeAt s far k ≤ seconds = rw same at in-time in
+          omega (arith, slow (omega arith), times-fall far-fits k (r - 1) (omega arith) (omega (arith, fitting .in-range, now .in-far)))
+
+  -- the sum that covers the pair
+  pub covering-sum : CoversAt s near i far r seconds → HasWithin (IsSum energy (listAt s near) (listAt s far)) (pair seconds units)
+  covering-sum covers =
+      record {
+        one = weights energy ._⊕_ (entry s near i) (entry s far (r - 1));
+        among =
+            record {
+              left = entry s near i;
+              right = entry s far (r - 1);
+              in-first = tabulate-member (entry s near) (countAt s near) {i = i} (omega arith);
+              in-second = tabulate-member (entry s far) (countAt s far) {i = r - 1} (omega (arith, covers .some, fitting .in-range, now .in-far));
+              adds = refl;
+            };
+        no-larger = (omega (arith, fitting .fits (covers .some), beside-is), covers .quick);
+      }
+
+-- no entry of the far list fits
+pub covers-none : {s : List ℕ} {near i far j seconds : ℕ} → j ≡ 0 → Decides (CoversAt s near i far j seconds) false
+covers-none e = record { holds = λ q. not-both q; fails = λ q covers. omega (arith, covers .some) }
+
+-- the sum of the two times decides
+pub covers-decides :
+    {s : List ℕ} {near i far j seconds first second sum : ℕ} {answer : Bool} → (j ≡ 0 → ⊥) → first ≡ timeAt s near i → second ≡ timeAt s far (j - 1) →
+    sum ≡ first + second → answer ≡ leb sum seconds → Decides (CoversAt s near i far j seconds) answer
+covers-decides {seconds = seconds} {sum = sum} some first-is second-is sum-is e =
+    record {
+      holds = λ q. let quick : sum ≤ seconds = leb-true sum seconds (sym e ∙ q) in record { some = omega arith; quick = omega arith };
+      fails = λ q covers. let late : seconds < sum = leb-false sum seconds (sym e ∙ q) in omega (arith, covers .quick);
+    }
+
+-- a level that is not marked asks for no entry
+pub asked-none : {s marks : List ℕ} {level near : ℕ} → (getD marks level 0 ≡ 1 → ⊥) → Asked s marks level near 0
+asked-none unmarked = record { marked = λ h. absurd (omega arith); all = λ e. absurd (unmarked e); few = omega arith }
+
+-- a marked level asks for all
+pub asked-all : {s marks : List ℕ} {level near count : ℕ} → getD marks level 0 ≡ 1 → count ≡ countAt s near → Asked s marks level near count
+asked-all marked e = record { marked = λ h. marked; all = λ h. e; few = omega arith }
+
+-- all entries of the near list were tried at a marked level
+pub pairing-end :
+    {s marks : List ℕ} {level near far seconds units count i j : ℕ} → Pairing s near far seconds units count i j → count ≤ i → Asked s marks level near count →
+    (q : Weight) → LevelSum s marks level near far q → weights energy ._⊑_ q (pair seconds units) → ⊥
+pairing-end {s} {near = near} {far = far} now h asked q here small =
+    let one = member-stands (entry s near) (countAt s near) (here .sum .in-first) in
+    let two = member-stands (entry s far) (countAt s far) (here .sum .in-second) in
+    let first-time : time energy (here .sum .left) ≡ timeAt s near (one .place) = ap (time energy) (one .is) in
+    let first-energy : spent energy (here .sum .left) ≡ energyAt s near (one .place) = ap (spent energy) (one .is) in
+    let second-time : time energy (here .sum .right) ≡ timeAt s far (two .place) = ap (time energy) (two .is) in
+    let second-energy : spent energy (here .sum .right) ≡ energyAt s far (two .place) = ap (spent energy) (two .is) in
+    let sum-time : time energy (here .sum .left) + time energy (here .sum .right) ≡ time energy q = ap (time energy) (here .sum .adds) in
+    let sum-energy : spent energy (here .sum .left) + spent energy (here .sum .right) ≡ spent energy q = ap (spent energy) (here .sum .adds) in
+    now .none (one .place) (two .place) (omega (arith, asked .all (here .marked), one .below)) (two .below) (omega (arith, small .1)) (omega (arith, small .0))
+
+-- ---- Level by level
+
+-- the level that a turn of the loop goes to
+pub level-up : {left : ℕ} → 0 < left → left ≡ suc (left - 1)
+level-up h = omega arith
+
+-- At the marked levels from `left` on no sum takes so little, and the places stand at the lists of the next level up
+pub record LevelSearch (s marks : List ℕ) (x y high seconds units left near far : ℕ) : Type 0 where
+  pub few : left ≤ high
+  pub near-is : near ≡ behind s x left
+  pub far-is : far ≡ behind s y left
+  pub none : (q : Weight) → MarkedSum s marks x y left high q → weights energy ._⊑_ q (pair seconds units) → ⊥
+
+-- no level is searched yet
+pub levels-start :
+    {s : List ℕ} (marks : List ℕ) {x y l left near far : ℕ} (seconds units : ℕ) → FoundList s x l near → FoundList s y l far → left ≡ suc (depthOf s l) →
+    LevelSearch s marks x y (suc (depthOf s l)) seconds units left near far
+levels-start {s} marks {x} {y} {l} {left} seconds units one two e =
+    record {
+      few = omega arith;
+      near-is = one .place ∙ level-place s x l refl ∙ ap (behind s x) (sym e);
+      far-is = two .place ∙ level-place s y l refl ∙ ap (behind s y) (sym e);
+      none = λ q h small. omega (arith, h .not-below, h .not-above);
+    }
+
+module _ {s marks : List ℕ} {x y l seconds units left level near far : ℕ}
+    (now : LevelSearch s marks x y (suc (depthOf s l)) seconds units left near far) (formed : Formed s) (branches : Branches s x y l)
+    (e : left ≡ suc level) where
+  -- both lists of the level fit, and it has a mark
+  pub levels-near : ListFits s near
+  levels-near = rw (now .near-is, e) (level-fits formed (branches .x-on-map) (omega (arith, now .few, branches .below-x)))
+
+  pub levels-far : ListFits s far
+  levels-far = rw (now .far-is, e) (level-fits formed (branches .y-on-map) (omega (arith, now .few, branches .below-y)))
+
+  pub levels-mark : level < 1024
+  levels-mark = omega (arith, now .few, formed .parents .ends l (branches .l-on-map), formed .parents .few-junctions)
+
+  near-here : near ≡ behind s x (suc level)
+  near-here = now .near-is ∙ ap (behind s x) e
+
+  far-here : far ≡ behind s y (suc level)
+  far-here = now .far-is ∙ ap (behind s y) e
+
+  -- a level without such a sum
+  pub levels-more :
+      {near′ far′ : ℕ} → ((q : Weight) → LevelSum s marks level near far q → weights energy ._⊑_ q (pair seconds units) → ⊥) →
+      near′ ≡ listEnd s near → far′ ≡ listEnd s far → LevelSearch s marks x y (suc (depthOf s l)) seconds units level near′ far′
+  levels-more nothing is-near is-far =
+      record {
+        few = omega (arith, now .few);
+        near-is = is-near ∙ ap (listEnd s) near-here ∙ level-next s x level (omega (arith, now .few, branches .below-x));
+        far-is = is-far ∙ ap (listEnd s) far-here ∙ level-next s y level (omega (arith, now .few, branches .below-y));
+        none = λ q h small. pick q h small (ℕ-discrete (h .level) level);
+      }
+    where
+      pick :
+          (q : Weight) (h : MarkedSum s marks x y level (suc (depthOf s l)) q) → weights energy ._⊑_ q (pair seconds units) → Dec (h .level ≡ level) → ⊥
+      pick q h small (yes same) = nothing q (rw (near-here, far-here) (rw same at (h .here))) small
+      pick q h small (no apart) =
+          now .none q (record { level = h .level; not-below = omega (arith, h .not-below); not-above = h .not-above; here = h .here }) small
+
+  -- a sum at a marked level
+  pub levels-found :
+      getD marks level 0 ≡ 1 → HasWithin (IsSum energy (listAt s near) (listAt s far)) (pair seconds units) →
+      HasWithin (MarkedSum s marks x y 0 (suc (depthOf s l))) (pair seconds units)
+  levels-found marked z =
+      record {
+        one = z .one;
+        among =
+            record {
+              level = level;
+              not-below = omega arith;
+              not-above = omega (arith, now .few);
+              here = record { marked = marked; sum = rw (near-here, far-here) at (z .among) };
+            };
+        no-larger = z .no-larger;
+      }
+
+-- no level is left
+pub levels-end :
+    {s marks : List ℕ} {x y high seconds units left near far : ℕ} {answer : Bool} → LevelSearch s marks x y high seconds units left near far → left ≤ 0 →
+    answer ≡ false → Decides (HasWithin (MarkedSum s marks x y 0 high) (pair seconds units)) answer
+levels-end {s} {marks} {x} {y} {high} {seconds} {units} {left} now h e =
+    record { holds = λ q. not-both (sym e ∙ q); fails = λ q z. now .none (z .one) (rw none-left (z .among)) (z .no-larger) }
+  where
+    none-left : left ≡ 0
+    none-left = omega arith
+
+-- what was found answers yes
+pub found-yes : {P : Type 0} → P → Decides P true
+found-yes p = record { holds = λ q. p; fails = λ q. not-both (sym q) }
+
+-- ---- What the paths have
+
+-- a set that stands for all paths has such a pair if there is such a path
+pub stands-decides :
+    {net : List ℕ} {x y : ℕ} {p : Weight} {Has : Weight → Type 0} {answer : Bool} → StandsFor net x y Has → Decides (HasWithin Has p) answer →
+    Decides (PathWithin net x y p) answer
+stands-decides {p = p} stands decides =
+    record {
+      holds = λ q.
+          let z = decides .holds q in
+          let walked = stands .real (z .among) in
+          record { walk = walked .walk; no-larger = rw (walked .weighs) (z .no-larger) };
+      fails = λ q path.
+          let z = stands .below (path .walk) in
+          decides .fails q (record { one = z .one; among = z .among; no-larger = (omega (arith, z .no-larger .0, path .no-larger .0), omega (arith, z .no-larger .1, path .no-larger .1)) });
+    }
+
+-- a junction reaches itself within anything
+pub reach-itself : {net : List ℕ} {x y : ℕ} {p : Weight} → x ≡ y → Decides (PathWithin net x y p) true
+unfolding weight
+reach-itself e = found-yes (rw (← e) (record { walk = stay; no-larger = (omega arith, omega arith) }))
+
+-- what was found is the stored list
+found-right :
+    {net s : List ℕ} {x y v u at : ℕ} → FoundList s v u at → IsTradeOff (networkOf net) x y (stored s v u) → IsTradeOff (networkOf net) x y (listAt s at)
+unfolding stored
+found-right found right = rw (found .place) right
+
+module _ {net s depths starts : List ℕ} (prepared : Prepared net s depths starts) {x y : ℕ} {p : Weight} where
+  -- junctions of different trees
+  pub reach-apart : ((u : ℕ) → Common (parentsOf s) x y u → ⊥) → Decides (PathWithin net x y p) false
+  reach-apart none =
+      record {
+        holds = λ q. not-both q;
+        fails = λ q path. apart-without-common (parentsOf s) (roads-joined (prepared .beside)) (parents-forest (prepared .beside)) none (path .walk);
+      }
+
+  module _ {answer : Bool} where
+    -- a junction and one above it, either way round
+    pub reach-up :
+        {at : ℕ} → Above (parentsOf s) y x → FoundList s x y at → Decides (HasWithin (EntryOf (listAt s at)) p) answer → Decides (PathWithin net x y p) answer
+    reach-up above found decides = stands-decides (tradeOff-stands (found-right found (stored-up prepared above))) decides
+
+    pub reach-down :
+        {at : ℕ} → Above (parentsOf s) x y → FoundList s y x at → Decides (HasWithin (EntryOf (listAt s at)) p) answer → Decides (PathWithin net x y p) answer
+    reach-down above found decides = stands-decides (tradeOff-stands (found-right found (stored-down prepared above))) decides
+
+    -- two branches
+    pub reach-across :
+        {l : ℕ} {marks : List ℕ} → MeetsAt s x y l → (l ≡ x → ⊥) → (l ≡ y → ⊥) → HopMarks net s l marks →
+        Decides (HasWithin (MarkedSum s marks x y 0 (suc (depthOf s l))) p) answer → Decides (PathWithin net x y p) answer
+    reach-across meets not-x not-y hops decides =
+        stands-decides
+        (marked-stands prepared (proper not-x (meets .deepest .common .of-start)) (proper not-y (meets .deepest .common .of-finish)) (meets .deepest) (meets .on-map) hops)
+        decides
