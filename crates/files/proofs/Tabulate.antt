@@ -3,10 +3,10 @@
 use mathlib.Core.Path.{_≡_, refl, sym, ap, _∙_}
 use mathlib.Core.Logic.{_⊎_, inl, inr}
 use mathlib.Core.List.{List, [], _∷_, _++_, append-assoc, List·Memᴰ, List·Memᴰ·head, List·Memᴰ·tail, List·Memᴰ·cases-cons, List·Memᴰ·not-nil}
-use Prim.Native.Nat.{ℕ, zero, suc, _+_, _<_}
+use Prim.Native.Nat.{ℕ, zero, suc, _+_, _≤_, _<_}
 use native.Mathlib.Omega.{arith}
 use native.Mathlib.Numerals.{add-one}
-use lib.ListN.{length, getD, drop, set, length-set}
+use lib.ListN.{length, getD, take, drop, set, length-set}
 use lib.Seq.{drop-cons, set-at}
 use Rattle.refusals.specs.Lent.{filled}
 use Rattle.files.specs.Stored.{tabulate}
@@ -63,6 +63,13 @@ module _ {A : Type 0} where
   tabulate-snoc f zero rest = refl
   tabulate-snoc f (suc n) rest = ap (λ l. f 0 ∷ l) (tabulate-snoc (λ i. f (suc i)) n rest)
 
+-- a list's first places are a table of them
+pub tabulate-places : (l : List ℕ) (n : ℕ) → n ≤ length l → tabulate (λ i. getD l i 0) n ≡ take n l
+unfolding tabulate
+tabulate-places l zero h = refl
+tabulate-places [] (suc n) h = absurd (omega arith)
+tabulate-places (x ∷ l) (suc n) h = ap (λ k. x ∷ k) (tabulate-places l n (omega arith))
+
 -- ---- Filling a lent slice
 
 -- a slice with no place filled is as it came
@@ -98,3 +105,8 @@ filling-more f {old} {new} {j} {x} filling h e =
 -- all n are filled
 pub filling-all : (f : ℕ → ℕ) {old new : List ℕ} {j n : ℕ} → Filling f old j new → j ≡ n → new ≡ filled old (tabulate f n)
 filling-all f {old} filling e = filling .is ∙ ap (λ n. filled old (tabulate f n)) e
+
+-- all n are filled with the first places of a list
+pub filling-places :
+    (l : List ℕ) {old new : List ℕ} {j n : ℕ} → Filling (λ i. getD l i 0) old j new → j ≡ n → n ≤ length l → new ≡ filled old (take n l)
+filling-places l {old} {n = n} filling e h = filling-all (λ i. getD l i 0) filling e ∙ ap (filled old) (tabulate-places l n h)

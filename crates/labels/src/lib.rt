@@ -13,6 +13,7 @@ ghost use Rattle.labels.specs.Check.{Checked};
 ghost use Rattle.labels.specs.Batch.{BatchDone};
 
 pub mod accept;
+pub mod lent;
 pub mod triples;
 
 // Check: 0 if the network and the labels are accepted, else the number of the first test that fails (1 to 6, 11 to 18).
