@@ -5,3 +5,4 @@ pub mod BatchSteps
 pub mod Accepted
 pub mod BatchWays
 pub mod BatchUnique
+pub mod RouteWays

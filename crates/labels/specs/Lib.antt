@@ -4,5 +4,6 @@ pub mod Check
 pub mod Batch
 pub mod Working
 pub mod Route
+pub mod RouteAnswers
 pub mod List
 pub mod Demands

@@ -1,8 +1,12 @@
 -- What the working functions behind the calls leave.
 use mathlib.Core.Path.{_≡_}
 use mathlib.Core.List.{List}
-use Prim.Native.Nat.{ℕ, _+_, _*_, _<_}
+use Prim.Native.Nat.{ℕ, _+_, _*_, _≤_, _<_}
 use lib.ListN.{length, set}
+use Rattle.paths.specs.Weights.{pair}
+use Rattle.paths.specs.Route.{FirstRoute}
+use Rattle.refusals.specs.Lent.{filled}
+use Rattle.network.specs.NetworkFile.{networkOf}
 use Rattle.files.specs.Formed.{Tables}
 use Rattle.labels.specs.Check.{Checked}
 use Rattle.labels.specs.Batch.{TripleAnswered}
@@ -29,3 +33,16 @@ pub record AnsweredTo (net queries before now : List ℕ) (i : ℕ) : Type 0 whe
 pub record Triples (queries answers : List ℕ) (count : ℕ) : Type 0 where
   pub whole : length queries ≡ 3 * count
   pub places : length answers ≡ length queries
+
+-- The first route of a pair in the first of the lent places, or the reason why not
+pub data RoutePut (net : List ℕ) (x y bestTime bestEnergy : ℕ) (before : List ℕ) (number time units count : ℕ) (after : List ℕ) : Type 0 where
+  no-room :
+      {route : List ℕ} →
+      FirstRoute (networkOf net) x y (pair bestTime bestEnergy) route → length before < length route →
+      number ≡ 24 → time ≡ 0 → units ≡ 0 → count ≡ 0 → after ≡ before →
+      RoutePut net x y bestTime bestEnergy before number time units count after
+  put :
+      {route : List ℕ} →
+      FirstRoute (networkOf net) x y (pair bestTime bestEnergy) route → length route ≤ length before →
+      number ≡ 0 → time ≡ bestTime → units ≡ bestEnergy → count ≡ length route → after ≡ filled before route →
+      RoutePut net x y bestTime bestEnergy before number time units count after

@@ -3,6 +3,8 @@
 // call, in the words of the scope.
 use lists::JoinAnswer;
 use lists::SumAnswer;
+use paths::energy::Energy;
+use paths::seconds::Seconds;
 ghost use Prim.Native.Nat.{_+_, _≤_};
 ghost use mathlib.Core.Path.{_≡_};
 ghost use lib.ListN.{length};
@@ -11,10 +13,23 @@ ghost use Rattle.files.specs.Stored.{listPlace};
 ghost use Rattle.files.specs.Shown.{Shown};
 ghost use Rattle.labels.specs.Check.{Checked};
 ghost use Rattle.labels.specs.Batch.{BatchDone};
+ghost use Rattle.labels.specs.Route.{Routed};
+ghost use Rattle.labels.specs.RouteAnswers.{routeNumberOf, routeTimeOf, routeEnergyOf, routeCountOf};
 
 pub mod accept;
 pub mod lent;
+pub mod routing;
 pub mod triples;
+
+// The answer of Route: the best pair and the count of its route's junctions, or why there is none.
+pub enum RouteAnswer {
+    Routed(Seconds, Energy, u32),
+    NotAccepted(u32),
+    OffMap,
+    NotConnected,
+    OverLimit,
+    NoRoom,
+}
 
 // Check: 0 if the network and the labels are accepted, else the number of the first test that fails (1 to 6, 11 to 18).
 pub fn check(net: &[u8], labels: &[u8]) -> u32
@@ -97,6 +112,63 @@ pub fn batch(net: &[u8], labels: &[u8], queries: &[u32], answers: &mut [u32]) ->
         &mut far_energies,
     );
     0
+}
+
+// Route: the best pair under a limit with the first of its routes, whose junctions fill the first of the lent places; the check's
+// number, 21, 22, 23, or 24 if the route has more junctions than places.
+pub fn route(
+    net: &[u8],
+    labels: &[u8],
+    s: u32,
+    t: u32,
+    limit: u32,
+    junctions: &mut [u32],
+) -> RouteAnswer
+    ensures { λ r.
+        ⌜ Routed (now (net .entry)) (now (labels .entry)) s t limit (now (junctions .entry))
+        (routeNumberOf r) (routeTimeOf r) (routeEnergyOf r) (routeCountOf r) (now (junctions .exit)) ⌝ }
+{
+    let mut depths: [u32; 1024] = [0; 1024];
+    let mut starts: [u32; 1024] = [0; 1024];
+    let mut heads: [u32; 1024] = [0; 1024];
+    let mut nexts: [u32; 8192] = [0; 8192];
+    let mut marks: [u8; 1024] = [0; 1024];
+    let mut near_times: [u32; 4096] = [0; 4096];
+    let mut near_energies: [u32; 4096] = [0; 4096];
+    let mut far_times: [u32; 4096] = [0; 4096];
+    let mut far_energies: [u32; 4096] = [0; 4096];
+    let number = accept::accept(
+        net,
+        labels,
+        &mut depths,
+        &mut starts,
+        &mut heads,
+        &mut nexts,
+        &mut near_times,
+        &mut near_energies,
+        &mut far_times,
+        &mut far_energies,
+    );
+    if number != 0 {
+        return RouteAnswer::NotAccepted(number);
+    }
+    routing::answer_route(
+        net,
+        labels,
+        &depths,
+        &starts,
+        &heads,
+        &nexts,
+        s,
+        t,
+        limit,
+        junctions,
+        &mut marks,
+        &mut near_times,
+        &mut near_energies,
+        &mut far_times,
+        &mut far_energies,
+    )
 }
 
 // Join: the unbeaten sums of two lists, each once, in order, into the first places of two lent slices; how many, or 41, 42, 24.
