@@ -6,3 +6,5 @@ pub mod Accepted
 pub mod BatchWays
 pub mod BatchUnique
 pub mod RouteWays
+pub mod RouteUnique
+pub mod ListUnique
