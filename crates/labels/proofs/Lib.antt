@@ -8,3 +8,5 @@ pub mod BatchUnique
 pub mod RouteWays
 pub mod RouteUnique
 pub mod ListUnique
+pub mod DemandLaws
+pub mod Demands

@@ -12,7 +12,7 @@ use Rattle.paths.specs.Weights.{weights, energy, pair}
 use Rattle.paths.specs.TradeOff.{Skyline}
 use Rattle.paths.specs.Answer.{Best}
 use Rattle.paths.proofs.Answers.{best-is-skyline}
-use Rattle.paths.proofs.Weights.{energy-lawful}
+use Rattle.paths.proofs.Figures.{number-lawful}
 use Rattle.refusals.specs.Lent.{filled}
 use Rattle.network.specs.NetworkFile.{networkOf, junctionsOf}
 use Rattle.query.specs.declared.Answer.{Answer}
@@ -65,7 +65,7 @@ module _ {net : List ℕ} {x y C : ℕ} {a : Answer} where
 
 -- the pair of an answer is unbeaten
 pub found-skyline : {net : List ℕ} {x y C time units : ℕ} → FoundPair net x y C time units → Skyline (networkOf net) x y (pair time units)
-found-skyline pair-found = best-is-skyline energy-lawful (pair-found .best)
+found-skyline pair-found = best-is-skyline number-lawful (pair-found .best)
 
 -- the check refuses
 pub route-refused :
