@@ -1,28 +1,26 @@
--- What the three demands stand on.
--- In this order: accepted sets; one triple; an answer and its number; batches; routes; lists; legs that meet in a cut.
+-- What demand 2 stands on: which sets are accepted, and what each number of a call means on an accepted set.
+-- In this order: accepted sets; one triple; an answer and its number; batches; routes; lists.
 use mathlib.Core.Path.{_≡_, refl, sym, ap, ap₂, _∙_, subst}
 use mathlib.Core.Logic.{_↔_, _⊎_, inl, inr, ⊎-elim}
 use mathlib.Core.List.{List, [], _∷_, List·Memᴰ·head}
 use Prim.Native.Nat.{ℕ, zero, suc, _+_, _*_, _≤_, _<_, min}
+use native.Mathlib.Decide.{decLt}
 use native.Mathlib.Omega.{arith}
 use lib.ListN.{length, getD}
-use Rattle.paths.specs.Weights.{weights, energy, pair, time, spent, NotLater}
-use Rattle.paths.specs.Network.{Walk, stay, go}
+use Rattle.paths.specs.Weights.{weights, energy, pair}
+use Rattle.paths.specs.Network.{Walk}
 use Rattle.paths.specs.TradeOff.{IsTradeOff}
 use Rattle.paths.specs.Answer.{Best, Over, Apart}
 use Rattle.paths.specs.Route.{FirstRoute}
-use Rattle.paths.specs.Cut.{IsCut, Legs, BestLegs}
 use Rattle.paths.proofs.Figures.{number-lawful}
-use Rattle.paths.proofs.Covering.{TradeOffs}
-use Rattle.paths.proofs.Existence.{tradeOff-exists}
 use Rattle.paths.proofs.Unique.{tradeOff-unique}
+use Rattle.paths.proofs.Existence.{tradeOff-exists}
+use Rattle.paths.proofs.Answers.{Outcome, outcome}
 use Rattle.paths.proofs.Route.{firstRoute-unique}
-use Rattle.paths.proofs.Cuts.{demand3-answered, demand3-refused}
 use Rattle.refusals.specs.Lent.{filled}
 use Rattle.lists.specs.Entries.{times, energies}
 use Rattle.network.specs.NetworkFile.{netNumber, networkOf, junctionsOf}
-use Rattle.network.specs.Fits.{NetworkFits}
-use Rattle.network.proofs.Arcs.{arc-on-map, network-finite}
+use Rattle.network.proofs.Arcs.{network-finite}
 use Rattle.network.proofs.Accepted.{network-fits}
 use Rattle.files.specs.LabelForm.{formBeside}
 use Rattle.files.specs.Formed.{Beside}
@@ -30,12 +28,12 @@ use Rattle.files.proofs.FormLaws.{form-beside-passed}
 use Rattle.exact.specs.Right.{EveryListRight}
 use Rattle.exact.proofs.Exactness.{lists-ordered}
 use Rattle.query.specs.Answers.{Answers, off-map, not-connected, over-limit, found}
-use Rattle.query.proofs.AnswersUnique.{SameAnswer, answers-unique}
+use Rattle.query.proofs.AnswersUnique.{answers-unique}
 use Rattle.labels.specs.Check.{Checked}
 use Rattle.labels.specs.Batch.{shapeNumber, TripleAnswered, BatchDone, misshapen, refused, answered}
 use Rattle.labels.specs.Route.{Routed}
 use Rattle.labels.specs.List.{Listed}
-use Rattle.labels.specs.Demands.{Complete, Gives, AnsweredLegs, BestTotal}
+use Rattle.labels.specs.Demands.{Complete, Gives}
 use Rattle.labels.proofs.Accepted.{zero-accepts, accepted-zero}
 use Rattle.labels.proofs.CheckUnique.{check-unique}
 
@@ -103,17 +101,37 @@ module _ {net s : List ℕ} {x y C number time units : ℕ} where
 
 -- ---- An answer
 
--- What an answered triple says
-pub record BestOnMap (net : List ℕ) (x y C : ℕ) (p : weights energy .Figure) : Type 0 where
-  pub start-on-map : x < junctionsOf net
-  pub finish-on-map : y < junctionsOf net
-  pub best : Best (networkOf net) x y C p
-
-pub answer-best : {net : List ℕ} {x y C number time units : ℕ} → Answers net x y C number time units → number ≡ 0 → BestOnMap net x y C (pair time units)
+pub answer-best :
+    {net : List ℕ} {x y C number time units : ℕ} → Answers net x y C number time units → number ≡ 0 →
+    (x < junctionsOf net) × (y < junctionsOf net) × Best (networkOf net) x y C (pair time units)
 answer-best (off-map off e f g) z = absurd (omega arith)
 answer-best (not-connected h k none e f g) z = absurd (omega arith)
 answer-best (over-limit h k out e f g) z = absurd (omega arith)
-answer-best (found h k best e) z = record { start-on-map = h; finish-on-map = k; best = best }
+answer-best (found h k best e) z = (h, k, best)
+
+pub gives-best :
+    {net s : List ℕ} {x y C time units : ℕ} → Checked net s 0 →
+    Gives net s x y C 0 time units ↔ ((x < junctionsOf net) × (y < junctionsOf net) × Best (networkOf net) x y C (pair time units))
+gives-best check = ((λ gives. answer-best (given-answer gives) refl), λ w. answer-given check (found (w .0) (w .1) (w .2) refl))
+
+-- any three numbers are answered
+pub some-answer : {net s : List ℕ} → Checked net s 0 → (x y C : ℕ) → (number : ℕ) × (time : ℕ) × (units : ℕ) × Gives net s x y C number time units
+some-answer {net} {s} check x y C = pick (decLt x (junctionsOf net)) (decLt y (junctionsOf net)) (outcome number-lawful (tradeOff-exists number-lawful (network-finite net) x y))
+  where
+    pick : Dec (x < junctionsOf net) → Dec (y < junctionsOf net) → Outcome (networkOf net) x y C → (number : ℕ) × (time : ℕ) × (units : ℕ) × Gives net s x y C number time units
+    pick (no off) d o = (21, 0, 0, answer-given check (off-map (inl (omega arith)) refl refl refl))
+    pick (yes h) (no off) o = (21, 0, 0, answer-given check (off-map (inr (omega arith)) refl refl refl))
+    pick (yes h) (yes k) (Outcome.answered {p} best) = (0, p .second, p .first, answer-given check (found h k best refl))
+    pick (yes h) (yes k) (Outcome.over out) = (23, 0, 0, answer-given check (over-limit h k out refl refl refl))
+    pick (yes h) (yes k) (Outcome.apart none) = (22, 0, 0, answer-given check (not-connected h k none refl refl refl))
+
+-- in one way
+pub one-answer :
+    {net s : List ℕ} {x y C number time units number′ time′ units′ : ℕ} →
+    Gives net s x y C number time units → Gives net s x y C number′ time′ units′ → (number ≡ number′) × (time ≡ time′) × (units ≡ units′)
+one-answer {net} {x = x} {y = y} {C = C} a b =
+    let same = answers-unique net x y C (given-answer a) (given-answer b) in
+    (same .number-is, same .time-is, same .energy-is)
 
 -- an end off the map is no junction
 off-or-on : {n x y : ℕ} → (n ≤ x) ⊎ (n ≤ y) → x < n → y < n → ⊥
@@ -159,34 +177,14 @@ answer-reasons (not-connected h k none e f g) = inr (inr (inl e))
 answer-reasons (over-limit h k out e f g) = inr (inr (inr e))
 answer-reasons (found h k best e) = inl e
 
--- a refused triple gets zeros
-pub answer-zeros : {net : List ℕ} {x y C number time units : ℕ} → Answers net x y C number time units → (number ≡ 0 → ⊥) → (time ≡ 0) × (units ≡ 0)
-answer-zeros (off-map off e f g) n = (f, g)
-answer-zeros (not-connected h k none e f g) n = (f, g)
-answer-zeros (over-limit h k out e f g) n = (f, g)
-answer-zeros (found h k best e) n = absurd (n e)
-
--- where an end is off the map, or no walk is within the limit, there is another number
-pub answer-refused : {net : List ℕ} {x y C number time units : ℕ} → Answers net x y C number time units → (number ≡ 0 → ⊥) → (p : weights energy .Figure) → BestOnMap net x y C p → ⊥
-answer-refused {net} {x} {y} {C} a n p b = n (answers-unique net x y C a (found (b .start-on-map) (b .finish-on-map) (b .best) refl) .number-is)
-
--- a walk from a junction ends at a junction
-walk-ends : {net : List ℕ} → NetworkFits net → {x y : ℕ} → x < junctionsOf net → Walk (networkOf net) x y → y < junctionsOf net
-walk-ends fits on-map stay = on-map
-walk-ends fits on-map (go a rest) = walk-ends fits (arc-on-map fits a .1) rest
-
--- any two junctions have a trade-off list
-every-list : (net : List ℕ) (v u : ℕ) → TradeOffs (networkOf net) v u
-every-list net = tradeOff-exists number-lawful (network-finite net)
-
 -- ---- Batches
 
-pub batch-reasons :
-    {net s queries before after : List ℕ} {number : ℕ} → Checked net s 0 → BatchDone net s queries before number after →
-    (number ≡ 0) ⊎ (number ≡ shapeNumber queries before)
-batch-reasons check (misshapen n e f) = inr e
-batch-reasons check (refused z c k f) = absurd (k (check-unique c check))
-batch-reasons check (answered z c e l g) = inl e
+-- on an accepted set the shape alone decides
+pub batch-number :
+    {net s queries before after : List ℕ} {number : ℕ} → Checked net s 0 → BatchDone net s queries before number after → number ≡ shapeNumber queries before
+batch-number check (misshapen n e f) = e
+batch-number check (refused z c k f) = absurd (k (check-unique c check))
+batch-number check (answered z c e l g) = e ∙ sym z
 
 -- every triple of an answered batch is answered as it would be alone
 pub batch-triples :
@@ -286,87 +284,3 @@ module _ {net s timesBefore energiesBefore timesAfter energiesAfter : List ℕ} 
       list-room (Listed.not-connected c h k none e f g l) = absurd (none (entry-walk is has))
       list-room (Listed.no-room c h k right some short e f g l) = (λ z. rw (tradeOff-unique number-lawful is right) short, λ w. e)
       list-room (Listed.listed c h k right some fits e f g l) = (λ z. absurd (omega arith), λ w. absurd (omega (arith, ap length (tradeOff-unique number-lawful is right))))
-
--- ---- Legs
-
-module _ {net s : List ℕ} {H : ℕ → Type 0} {x y C : ℕ} where
-  -- two answered legs are two best legs
-  legs-best : {t e : ℕ} → AnsweredLegs net s H x y C t e → Legs (networkOf net) H x y C (pair t e)
-  legs-best l =
-      record {
-        at = l .at;
-        inside = l .inside;
-        first-limit = l .first-limit;
-        second-limit = l .second-limit;
-        cuts = l .cuts;
-        first = pair (l .first-time) (l .first-energy);
-        second = pair (l .second-time) (l .second-energy);
-        first-leg = answer-best (given-answer (l .first-leg)) refl .best;
-        second-leg = answer-best (given-answer (l .second-leg)) refl .best;
-        adds = ap₂ pair (l .times-add) (l .energies-add);
-      }
-
-  -- answered legs join junctions
-  legs-on-map : {t e : ℕ} → AnsweredLegs net s H x y C t e → (x < junctionsOf net) × (y < junctionsOf net)
-  legs-on-map l =
-      (answer-best (given-answer (l .first-leg)) refl .start-on-map, answer-best (given-answer (l .second-leg)) refl .finish-on-map)
-
-module _ {net s : List ℕ} (check : Checked net s 0) {H : ℕ → Type 0} {x y C : ℕ} where
-  -- two best legs between junctions are answered
-  best-legs : {p : weights energy .Figure} → x < junctionsOf net → y < junctionsOf net → Legs (networkOf net) H x y C p → AnsweredLegs net s H x y C (time energy p) (spent energy p)
-  best-legs h k l =
-      let middle = walk-ends (network-fits net (zero-accepts check refl .network-passes)) h (l .first-leg .walk) in
-      record {
-        at = l .at;
-        inside = l .inside;
-        first-limit = l .first-limit;
-        second-limit = l .second-limit;
-        cuts = l .cuts;
-        first-time = time energy (l .first);
-        first-energy = spent energy (l .first);
-        second-time = time energy (l .second);
-        second-energy = spent energy (l .second);
-        first-leg = answer-given check (found h middle (l .first-leg) refl);
-        second-leg = answer-given check (found middle k (l .second-leg) refl);
-        times-add = ap (time energy) (l .adds);
-        energies-add = ap (spent energy) (l .adds);
-      }
-
-  module _ (cut : IsCut (networkOf net) H x y) where
-    pub answered-exactly : {t e : ℕ} → Gives net s x y C 0 t e ↔ BestTotal net s H x y C t e
-    answered-exactly {t} {e} = (there, back)
-      where
-        there : Gives net s x y C 0 t e → BestTotal net s H x y C t e
-        there g =
-            let b = answer-best (given-answer g) refl in
-            let z = demand3-answered number-lawful cut (every-list net) .0 (b .best) in
-            record {
-              legs = best-legs (b .start-on-map) (b .finish-on-map) (z .legs);
-              least = λ otherTime otherUnits l. z .least (pair otherTime otherUnits) (legs-best l);
-            }
-
-        back : BestTotal net s H x y C t e → Gives net s x y C 0 t e
-        back b =
-            let on-map = legs-on-map (b .legs) in
-            let best =
-                demand3-answered number-lawful cut (every-list net) .1
-                (record { legs = legs-best (b .legs); least = λ q l. b .least (time energy q) (spent energy q) (best-legs (on-map .0) (on-map .1) l) }) in
-            answer-given check (found (on-map .0) (on-map .1) best refl)
-
-    pub refused-exactly :
-        {number t e : ℕ} → Gives net s x y C number t e → (number ≡ 0 → ⊥) ↔ ((otherTime otherUnits : ℕ) → AnsweredLegs net s H x y C otherTime otherUnits → ⊥)
-    refused-exactly {number} {t} {e} g = (there, back)
-      where
-        there : (number ≡ 0 → ⊥) → (otherTime otherUnits : ℕ) → AnsweredLegs net s H x y C otherTime otherUnits → ⊥
-        there n otherTime otherUnits l =
-            let on-map = legs-on-map l in
-            demand3-refused number-lawful cut (every-list net) .0
-            (λ p best. answer-refused (given-answer g) n p (record { start-on-map = on-map .0; finish-on-map = on-map .1; best = best }))
-            (pair otherTime otherUnits) (legs-best l)
-
-        back : ((otherTime otherUnits : ℕ) → AnsweredLegs net s H x y C otherTime otherUnits → ⊥) → number ≡ 0 → ⊥
-        back none z =
-            let b = answer-best (given-answer g) z in
-            demand3-refused number-lawful cut (every-list net) .1
-            (λ p l. none (time energy p) (spent energy p) (best-legs (b .start-on-map) (b .finish-on-map) l))
-            (pair t e) (b .best)

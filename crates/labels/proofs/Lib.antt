@@ -1,4 +1,4 @@
--- Why the calls give what they state, and that no second outcome meets a statement.
+-- Why the calls give what they state, that no second outcome meets a statement, and that the three demands hold (`Demands`).
 pub mod Accepts
 pub mod CheckUnique
 pub mod BatchSteps
@@ -8,5 +8,7 @@ pub mod BatchUnique
 pub mod RouteWays
 pub mod RouteUnique
 pub mod ListUnique
+pub mod Unchanged
 pub mod DemandLaws
+pub mod LegLaws
 pub mod Demands
