@@ -18,13 +18,13 @@ use Rattle.refusals.proofs.Lent.{filled-length}
 use Rattle.lists.specs.Entries.{Weight, entries, IsList}
 use Rattle.lists.specs.Cover.{Covering}
 use Rattle.network.specs.NetworkFile.{junctionsOf}
-use Rattle.files.specs.LabelFile.{parentsOf, countAt, timeAt, energyAt}
-use Rattle.files.specs.Forest.{depthOf}
-use Rattle.files.specs.Stored.{tabulate, listPlace, listAt, stored}
-use Rattle.files.specs.Formed.{Formed, ListFits, Beside}
-use Rattle.files.specs.Scanned.{Loaded}
-use Rattle.files.proofs.Tabulate.{length-tabulate, getD-tabulate}
-use Rattle.files.proofs.Forest.{above-shallower, above-at}
+use Rattle.forest.specs.LabelFile.{parentsOf, countAt, timeAt, energyAt}
+use Rattle.forest.specs.Forest.{depthOf}
+use Rattle.stored.specs.Stored.{tabulate, listPlace, listAt, stored}
+use Rattle.stored.specs.Formed.{Formed, ListFits, Beside}
+use Rattle.stored.specs.Scanned.{Loaded}
+use Rattle.stored.proofs.Tabulate.{length-tabulate, getD-tabulate}
+use Rattle.forest.proofs.Forest.{above-shallower, above-at}
 use Rattle.exact.specs.Agreeing.{RestInput, RestAt, one-junction, with-neighbour, with-ancestor, restEntries, RestFits, ListRoom, Leads, Holds, Left}
 use Rattle.exact.specs.declared.agree.RestPlace.{RestPlace}
 use Rattle.exact.specs.declared.agree.RestPlace.the-variants.{Arrived, Stored}

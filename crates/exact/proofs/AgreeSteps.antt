@@ -20,10 +20,10 @@ use Rattle.network.proofs.RoadsAt.{nextRoad-low, nextRoad-touches, nextRoad-pas
 use Rattle.network.specs.RoadsRead.{NextsFilled}
 use Rattle.network.specs.Fits.{NetworkFits}
 use Rattle.network.proofs.GroupedRoads.{nexts-filled}
-use Rattle.files.specs.LabelFile.{parentsOf}
-use Rattle.files.specs.Stored.{listAt, stored}
-use Rattle.files.specs.Formed.{ListFits, Beside}
-use Rattle.files.proofs.Forest.{above-at}
+use Rattle.forest.specs.LabelFile.{parentsOf}
+use Rattle.stored.specs.Stored.{listAt, stored}
+use Rattle.stored.specs.Formed.{ListFits, Beside}
+use Rattle.forest.proofs.Forest.{above-at}
 use Rattle.exact.specs.Agreeing.{
   AgreeInput,
   Room,

@@ -14,14 +14,14 @@ use Rattle.paths.proofs.TwoWay.{TwoWay}
 use Rattle.paths.proofs.LabelTest.{AllAgree, AllRight, AllOrdered, label-test-exact}
 use Rattle.network.specs.NetworkFile.{networkOf, junctionsOf}
 use Rattle.network.proofs.Arcs.{two-way}
-use Rattle.files.specs.LabelFile.{parentsOf}
-use Rattle.files.specs.Forest.{depthOf}
-use Rattle.files.specs.Stored.{listsBefore, listsOf, placeOf, listPlace, stored}
-use Rattle.files.specs.Formed.{Formed, ListFits, Beside}
-use Rattle.files.specs.Scanned.{FoundList}
-use Rattle.files.proofs.Forest.{HasParent, parents-some, above-shallower, forest, roads-related}
-use Rattle.files.proofs.Places.{list-number-of, found-fits}
-use Rattle.files.proofs.Lists.{list-ordered}
+use Rattle.forest.specs.LabelFile.{parentsOf}
+use Rattle.forest.specs.Forest.{depthOf}
+use Rattle.stored.specs.Stored.{listsBefore, listsOf, placeOf, listPlace, stored}
+use Rattle.stored.specs.Formed.{Formed, ListFits, Beside}
+use Rattle.stored.specs.Scanned.{FoundList}
+use Rattle.forest.proofs.Forest.{HasParent, parents-some, above-shallower, forest, roads-related}
+use Rattle.stored.proofs.Places.{list-number-of, found-fits}
+use Rattle.stored.proofs.Lists.{list-ordered}
 use Rattle.exact.specs.Right.{EveryListRight}
 
 -- a junction with an ancestor is on the map

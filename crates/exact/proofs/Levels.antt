@@ -10,13 +10,14 @@ use lib.ListN.{length, getD, set, length-set}
 use lib.Seq.{getD-set-same, getD-set-other}
 use Rattle.paths.specs.Forest.{Above}
 use Rattle.network.specs.NetworkFile.{junctionsOf}
-use Rattle.files.specs.LabelFile.{parentAt, parentsOf, listEnd}
-use Rattle.files.specs.Forest.{depthOf, ancestorOf}
-use Rattle.files.specs.Stored.{listsBefore, placeOf, startOf, listPlace}
-use Rattle.files.specs.Formed.{ParentsFit, ListFits, Formed, DepthsFilled, StartsFilled}
-use Rattle.files.proofs.Chains.{IsRoot, root?, depth-parent, ancestor-none, ancestor-more, climbed}
-use Rattle.files.proofs.Forest.{above-at, above-is-up, above-shallower}
-use Rattle.files.proofs.Places.{place-next, list-takes, list-number-of}
+use Rattle.forest.specs.LabelFile.{parentAt, parentsOf, listEnd}
+use Rattle.forest.specs.Forest.{depthOf, ancestorOf}
+use Rattle.stored.specs.Stored.{listsBefore, placeOf, startOf, listPlace}
+use Rattle.forest.specs.Fits.{ParentsFit, DepthsFilled}
+use Rattle.stored.specs.Formed.{ListFits, Formed, StartsFilled}
+use Rattle.forest.proofs.Chains.{IsRoot, root?, depth-parent, ancestor-none, ancestor-more, climbed}
+use Rattle.forest.proofs.Forest.{above-at, above-is-up, above-shallower}
+use Rattle.stored.proofs.Places.{place-next, list-takes, list-number-of}
 use Rattle.exact.specs.Sweep.{AtLevel, PlacesFor}
 use Rattle.exact.specs.Moving.{Stands, Advancing, Waits, Waiting}
 use Rattle.exact.proofs.Exactness.{below-on-map}

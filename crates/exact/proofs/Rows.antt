@@ -8,11 +8,12 @@ use native.Mathlib.Omega.{arith}
 use lib.ListN.{length, getD, set, length-set}
 use lib.Seq.{getD-set-same, getD-set-other}
 use Rattle.network.specs.NetworkFile.{junctionsOf}
-use Rattle.files.specs.LabelFile.{listEnd}
-use Rattle.files.specs.Forest.{depthOf}
-use Rattle.files.specs.Stored.{listsBefore, placeOf}
-use Rattle.files.specs.Formed.{ListFits, Formed, DepthsFilled, StartsFilled}
-use Rattle.files.proofs.Places.{place-next, list-takes, list-number-of}
+use Rattle.forest.specs.LabelFile.{listEnd}
+use Rattle.forest.specs.Forest.{depthOf}
+use Rattle.stored.specs.Stored.{listsBefore, placeOf}
+use Rattle.forest.specs.Fits.{DepthsFilled}
+use Rattle.stored.specs.Formed.{ListFits, Formed, StartsFilled}
+use Rattle.stored.proofs.Places.{place-next, list-takes, list-number-of}
 use Rattle.exact.specs.Sweep.{RowOf}
 use Rattle.exact.proofs.Levels.{place-same}
 

@@ -12,11 +12,11 @@ use Rattle.paths.specs.Forest.{Above}
 use Rattle.paths.proofs.LabelTest.{ListAgrees, AllAgree}
 use Rattle.network.specs.NetworkFile.{networkOf, junctionsOf}
 use Rattle.lists.specs.Cover.{Decides}
-use Rattle.files.specs.LabelFile.{parentsOf}
-use Rattle.files.specs.Forest.{depthOf}
-use Rattle.files.specs.Stored.{stored}
-use Rattle.files.specs.Formed.{Beside}
-use Rattle.files.proofs.Forest.{above-at, above-shallower}
+use Rattle.forest.specs.LabelFile.{parentsOf}
+use Rattle.forest.specs.Forest.{depthOf}
+use Rattle.stored.specs.Stored.{stored}
+use Rattle.stored.specs.Formed.{Beside}
+use Rattle.forest.proofs.Forest.{above-at, above-shallower}
 use Rattle.exact.specs.Right.{EveryListRight}
 use Rattle.exact.specs.Sweep.{RowOf}
 use Rattle.exact.specs.Agreeing.{AgreeInput}

@@ -13,9 +13,10 @@ use Rattle.lists.specs.Entries.{Weight, entries, entryAt, IsList}
 use Rattle.lists.specs.Cover.{Decides}
 use Rattle.network.specs.NetworkFile.{networkOf, junctionsOf, roadsOf, RoadArc}
 use Rattle.network.specs.Roads.{touches, Grouped}
-use Rattle.files.specs.LabelFile.{parentsOf}
-use Rattle.files.specs.Stored.{listPlace, listAt, stored}
-use Rattle.files.specs.Formed.{Formed, ListFits, DepthsFilled, Beside}
+use Rattle.forest.specs.LabelFile.{parentsOf}
+use Rattle.stored.specs.Stored.{listPlace, listAt, stored}
+use Rattle.forest.specs.Fits.{DepthsFilled}
+use Rattle.stored.specs.Formed.{Formed, ListFits, Beside}
 use Rattle.exact.specs.Sweep.{RowOf, PlacesFor}
 use Rattle.exact.specs.declared.agree.RestPlace.{RestPlace}
 use Rattle.exact.specs.declared.agree.RestPlace.the-variants.{Arrived, Stored}

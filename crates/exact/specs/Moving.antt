@@ -4,9 +4,9 @@ use mathlib.Core.List.{List}
 use Prim.Native.Nat.{ℕ, suc, _+_, _-_, _≤_, _<_}
 use lib.ListN.{length, getD}
 use Rattle.network.specs.NetworkFile.{junctionsOf}
-use Rattle.files.specs.LabelFile.{parentAt}
-use Rattle.files.specs.Forest.{depthOf, ancestorOf}
-use Rattle.files.specs.Stored.{listsBefore, placeOf, startOf}
+use Rattle.forest.specs.LabelFile.{parentAt}
+use Rattle.forest.specs.Forest.{depthOf, ancestorOf}
+use Rattle.stored.specs.Stored.{listsBefore, placeOf, startOf}
 
 -- v has moved on once for each of its ancestors deeper than d: `top` is its next ancestor, `place` the byte of the list for it
 pub record Stands (s : List ℕ) (d v top place : ℕ) : Type 0 where

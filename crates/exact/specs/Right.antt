@@ -6,8 +6,8 @@ use Prim.Native.Nat.{ℕ}
 use Rattle.paths.specs.TradeOff.{IsTradeOff}
 use Rattle.paths.specs.Forest.{Above}
 use Rattle.network.specs.NetworkFile.{networkOf, netNumber}
-use Rattle.files.specs.LabelFile.{parentsOf}
-use Rattle.files.specs.Stored.{stored}
+use Rattle.forest.specs.LabelFile.{parentsOf}
+use Rattle.stored.specs.Stored.{stored}
 use Rattle.files.specs.LabelForm.{formBeside}
 
 -- Every stored list is the trade-off list of its junction and that junction's proper ancestor

@@ -6,9 +6,9 @@ use Prim.Native.Nat.{ℕ, _-_, _≤_, _<_}
 use lib.ListN.{length, getD}
 use Rattle.network.specs.NetworkFile.{junctionsOf}
 use Rattle.paths.specs.Forest.{Above}
-use Rattle.files.specs.LabelFile.{parentAt, parentsOf}
-use Rattle.files.specs.Forest.{depthOf, ancestorOf}
-use Rattle.files.specs.Stored.{listPlace, startOf}
+use Rattle.forest.specs.LabelFile.{parentAt, parentsOf}
+use Rattle.forest.specs.Forest.{depthOf, ancestorOf}
+use Rattle.stored.specs.Stored.{listPlace, startOf}
 
 -- The ancestor at depth d of each junction deeper than d, and the byte of the list for it
 pub record AtLevel (s : List ℕ) (d : ℕ) (tops places : List ℕ) : Type 0 where

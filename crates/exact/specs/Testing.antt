@@ -6,10 +6,11 @@ use Rattle.paths.specs.Forest.{Above}
 use Rattle.paths.proofs.LabelTest.{ListAgrees}
 use Rattle.network.specs.NetworkFile.{networkOf, junctionsOf}
 use Rattle.network.specs.Roads.{Grouped}
-use Rattle.files.specs.LabelFile.{parentsOf}
-use Rattle.files.specs.Forest.{depthOf}
-use Rattle.files.specs.Stored.{stored}
-use Rattle.files.specs.Formed.{DepthsFilled, Beside, Tables}
+use Rattle.forest.specs.LabelFile.{parentsOf}
+use Rattle.forest.specs.Forest.{depthOf}
+use Rattle.stored.specs.Stored.{stored}
+use Rattle.forest.specs.Fits.{DepthsFilled}
+use Rattle.stored.specs.Formed.{Beside, Tables}
 use Rattle.exact.specs.Sweep.{AtLevel, RowOf}
 
 -- P holds of every number below n

@@ -1,6 +1,4 @@
 // The test of one stored list: does it agree with the lists one road further?
-use files::place::number_of;
-use files::stored::load;
 use lists::cover::cover;
 use network::bytes::u32_at;
 use network::roads::next_road;
@@ -9,6 +7,8 @@ use network::roads::road_energy;
 use network::roads::road_time;
 use paths::energy::Energy;
 use paths::seconds::Seconds;
+use stored::place::number_of;
+use stored::stored::load;
 ghost use mathlib.Core.Path.{_≡_};
 ghost use Prim.Native.Nat.{_≤_};
 ghost use lib.ListN.{length, take};
@@ -16,9 +16,9 @@ ghost use Rattle.paths.specs.Weights.{pair};
 ghost use Rattle.paths.proofs.LabelTest.{ListAgrees};
 ghost use Rattle.lists.specs.Cover.{Decides, Covering};
 ghost use Rattle.network.specs.NetworkFile.{networkOf};
-ghost use Rattle.files.specs.LabelFile.{parentsOf};
-ghost use Rattle.files.specs.Stored.{listAt, stored};
-ghost use Rattle.files.specs.Formed.{ListFits};
+ghost use Rattle.forest.specs.LabelFile.{parentsOf};
+ghost use Rattle.stored.specs.Stored.{listAt, stored};
+ghost use Rattle.stored.specs.Formed.{ListFits};
 ghost use Rattle.exact.specs.Agreeing.{AgreeInput, ListRoom, Room, RoadInput, RestInput, RestAt, restEntries, RestFits, Leads, Holds, RoadTested, Cleared, AllMarked};
 
 // Where the list of a neighbour and an ancestor is: the neighbour is the ancestor, or a list is stored at a byte.

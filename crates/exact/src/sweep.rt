@@ -1,16 +1,17 @@
 // The sweep over the labels, level by level of the forest from the deepest up. No list is searched for: each junction has a
 // reading place, which moves on by one list a level.
 use crate::agree::list_agrees;
-use files::parents::parent_at;
-use files::place::Place;
-use files::place::number_of;
+use forest::parents::parent_at;
 use network::bytes::u16_at;
+use stored::place::Place;
+use stored::place::number_of;
 ghost use mathlib.Core.Path.{_≡_};
 ghost use Prim.Native.Nat.{_+_, _-_, _≤_, _<_};
 ghost use lib.ListN.{length};
 ghost use Rattle.network.specs.NetworkFile.{junctionsOf};
 ghost use Rattle.lists.specs.Cover.{Decides};
-ghost use Rattle.files.specs.Formed.{Formed, DepthsFilled, StartsFilled, Beside, Tables};
+ghost use Rattle.forest.specs.Fits.{DepthsFilled};
+ghost use Rattle.stored.specs.Formed.{Formed, StartsFilled, Beside, Tables};
 ghost use Rattle.exact.specs.Right.{EveryListRight};
 ghost use Rattle.exact.specs.Sweep.{AtLevel, RowOf};
 ghost use Rattle.exact.specs.Agreeing.{ListRoom, Room};

@@ -14,15 +14,17 @@ use Rattle.network.specs.Bytes.{marked}
 use Rattle.network.specs.Versions.{labelsServed}
 use Rattle.network.specs.NetworkFile.{versionOf, junctionsOf, roadsOf, identityOf}
 use Rattle.network.specs.Fits.{NetworkFits}
-use Rattle.files.specs.LabelFile.{entriesOf}
-use Rattle.files.specs.Forest.{parentFits, chainEnds, depthOf, roadJoins}
-use Rattle.files.specs.Stored.{listsOf, placeOf, entriesBefore}
-use Rattle.files.specs.LabelForm.{mostBytes, listsNumber, labelForm, sameNetwork, formBeside, formAlone}
-use Rattle.files.specs.Formed.{ParentsFit, ListFits, Formed, Beside}
-use Rattle.files.specs.ParentsRead.{parentsPass}
+use Rattle.forest.specs.LabelFile.{entriesOf}
+use Rattle.forest.specs.Forest.{parentFits, chainEnds, depthOf, roadJoins}
+use Rattle.stored.specs.Stored.{listsOf, placeOf, entriesBefore}
+use Rattle.stored.specs.ListForm.{mostBytes, listsNumber}
+use Rattle.files.specs.LabelForm.{labelForm, sameNetwork, formBeside, formAlone}
+use Rattle.forest.specs.Fits.{ParentsFit}
+use Rattle.stored.specs.Formed.{ListFits, Formed, Beside}
+use Rattle.forest.specs.ParentsRead.{parentsPass}
 use Rattle.files.specs.FormRead.{headerForm, parentsForm, listsForm, junctionsFit}
-use Rattle.files.proofs.Chains.{parents-fit}
-use Rattle.files.proofs.Lists.{lists-fit, fits-lists-number}
+use Rattle.forest.proofs.Chains.{parents-fit}
+use Rattle.stored.proofs.Lists.{lists-fit, fits-lists-number}
 
 -- ---- The parts make up the form
 

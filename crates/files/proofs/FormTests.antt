@@ -14,12 +14,13 @@ use Rattle.network.specs.Versions.{labelsServed}
 use Rattle.network.specs.Reads.{ReadU16}
 use Rattle.network.specs.NetworkFile.{junctionsOf, roadsOf, identityOf}
 use Rattle.network.specs.Fits.{NetworkFits}
-use Rattle.files.specs.LabelFile.{entriesOf}
-use Rattle.files.specs.Forest.{roadJoins}
-use Rattle.files.specs.LabelForm.{mostBytes, labelForm, sameNetwork, formBeside, formAlone}
-use Rattle.files.specs.Formed.{ParentsFit, DepthsFilled}
-use Rattle.files.specs.ParentsRead.{ParentsTested}
-use Rattle.files.specs.Scanned.{Scanned}
+use Rattle.forest.specs.LabelFile.{entriesOf}
+use Rattle.forest.specs.Forest.{roadJoins}
+use Rattle.stored.specs.ListForm.{mostBytes}
+use Rattle.files.specs.LabelForm.{labelForm, sameNetwork, formBeside, formAlone}
+use Rattle.forest.specs.Fits.{ParentsFit, DepthsFilled}
+use Rattle.forest.specs.ParentsRead.{ParentsTested}
+use Rattle.stored.specs.Scanned.{Scanned}
 use Rattle.files.specs.FormRead.{
   headerForm,
   parentsForm,
@@ -31,7 +32,7 @@ use Rattle.files.specs.FormRead.{
   AloneRead,
   BesideRead,
 }
-use Rattle.files.proofs.Faults.{decided-fault}
+use Rattle.stored.proofs.Faults.{decided-fault}
 use Rattle.files.proofs.FormLaws.{
   label-parts,
   header-fits,

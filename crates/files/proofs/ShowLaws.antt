@@ -9,16 +9,17 @@ use native.Mathlib.Omega.{arith}
 use lib.ListN.{length, take, drop}
 use borrow.Author.Tests.{not-true, not-false}
 use Rattle.network.specs.NetworkFile.{junctionsOf}
-use Rattle.files.specs.LabelFile.{listEnd}
-use Rattle.files.specs.Forest.{depthOf, isAncestor}
-use Rattle.files.specs.Stored.{listPlace}
+use Rattle.forest.specs.LabelFile.{listEnd}
+use Rattle.forest.specs.Forest.{depthOf, isAncestor}
+use Rattle.stored.specs.Stored.{listPlace}
 use Rattle.files.specs.LabelForm.{formAlone}
-use Rattle.files.specs.Formed.{ParentsFit, Formed}
-use Rattle.files.specs.Scanned.{FoundList}
+use Rattle.forest.specs.Fits.{ParentsFit}
+use Rattle.stored.specs.Formed.{Formed}
+use Rattle.stored.specs.Scanned.{FoundList}
 use Rattle.files.specs.Shown.{Shows, Shown, nothing, bytes}
 use Rattle.files.specs.Span.{AboveTested, Spans, none, list, SpanFound}
-use Rattle.files.proofs.Forest.{above-shallower, is-ancestor-sound, is-ancestor-complete}
-use Rattle.files.proofs.Places.{list-takes, found-fits}
+use Rattle.forest.proofs.Forest.{above-shallower, is-ancestor-sound, is-ancestor-complete}
+use Rattle.stored.proofs.Places.{list-takes, found-fits}
 
 -- ---- Whether u is a proper ancestor of v
 

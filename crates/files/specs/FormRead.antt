@@ -10,11 +10,13 @@ use Rattle.refusals.specs.Order.{unless, decided}
 use Rattle.network.specs.Bytes.{marked}
 use Rattle.network.specs.Versions.{labelsServed}
 use Rattle.network.specs.NetworkFile.{versionOf, junctionsOf}
-use Rattle.files.specs.LabelFile.{entriesOf}
-use Rattle.files.specs.Stored.{listsOf, placeOf, entriesBefore}
-use Rattle.files.specs.LabelForm.{mostBytes, listsNumber, formBeside, formAlone}
-use Rattle.files.specs.Formed.{Formed, Beside, DepthsFilled, StartsFilled}
-use Rattle.files.specs.ParentsRead.{parentsPass}
+use Rattle.forest.specs.LabelFile.{entriesOf}
+use Rattle.stored.specs.Stored.{listsOf, placeOf, entriesBefore}
+use Rattle.stored.specs.ListForm.{mostBytes, listsNumber}
+use Rattle.files.specs.LabelForm.{formBeside, formAlone}
+use Rattle.forest.specs.Fits.{DepthsFilled}
+use Rattle.stored.specs.Formed.{Formed, Beside, StartsFilled}
+use Rattle.forest.specs.ParentsRead.{parentsPass}
 
 -- ---- The parts, between which 14 and 16 stand
 

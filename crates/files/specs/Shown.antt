@@ -6,8 +6,8 @@ use Prim.Native.Nat.{ℕ, _-_, _<_}
 use lib.ListN.{take, drop}
 use Rattle.paths.specs.Forest.{Above}
 use Rattle.network.specs.NetworkFile.{junctionsOf}
-use Rattle.files.specs.LabelFile.{parentsOf, listEnd}
-use Rattle.files.specs.Stored.{listPlace}
+use Rattle.forest.specs.LabelFile.{parentsOf, listEnd}
+use Rattle.stored.specs.Stored.{listPlace}
 use Rattle.files.specs.LabelForm.{formAlone}
 
 -- What must hold for a list to be handed out

@@ -5,8 +5,8 @@ use mathlib.Core.List.{List}
 use Prim.Native.Nat.{ℕ, _≤_}
 use lib.ListN.{length}
 use Rattle.paths.specs.Forest.{Above}
-use Rattle.files.specs.LabelFile.{parentsOf, listEnd}
-use Rattle.files.specs.Stored.{listPlace}
+use Rattle.forest.specs.LabelFile.{parentsOf, listEnd}
+use Rattle.stored.specs.Stored.{listPlace}
 use Rattle.files.specs.Shown.{Shows}
 
 -- r says whether u is a proper ancestor of v

@@ -1,6 +1,3 @@
 // The label file: every byte has one reading.
 pub mod form;
-pub mod parents;
-pub mod place;
 pub mod show;
-pub mod stored;

@@ -1,15 +1,16 @@
 // Show: the very bytes of one stored list, handed out from the labels lent.
 use crate::form::form_alone;
-use crate::parents::is_ancestor;
-use crate::place::find_list;
+use forest::parents::is_ancestor;
 use network::bytes::u16_at;
+use stored::place::find_list;
 ghost use mathlib.Core.Path.{_≡_};
 ghost use Prim.Native.Nat.{_+_, _≤_, _<_};
 ghost use lib.ListN.{length};
 ghost use Rattle.network.specs.NetworkFile.{junctionsOf};
-ghost use Rattle.files.specs.Stored.{listPlace};
+ghost use Rattle.stored.specs.Stored.{listPlace};
 ghost use Rattle.files.specs.LabelForm.{formAlone};
-ghost use Rattle.files.specs.Formed.{ParentsFit, Formed, DepthsFilled, StartsFilled};
+ghost use Rattle.forest.specs.Fits.{ParentsFit, DepthsFilled};
+ghost use Rattle.stored.specs.Formed.{Formed, StartsFilled};
 ghost use Rattle.files.specs.Shown.{Shown};
 ghost use Rattle.files.specs.Span.{AboveTested, SpanFound};
 

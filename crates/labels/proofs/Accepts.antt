@@ -9,7 +9,7 @@ use Rattle.network.specs.NetworkFile.{netNumber}
 use Rattle.network.specs.Fits.{NetworkFits}
 use Rattle.network.specs.Roads.{Grouped}
 use Rattle.network.proofs.Accepted.{network-fits}
-use Rattle.files.specs.Formed.{Tables, Beside}
+use Rattle.stored.specs.Formed.{Tables, Beside}
 use Rattle.files.specs.FormRead.{BesideRead}
 use Rattle.exact.specs.Right.{EveryListRight}
 use Rattle.labels.specs.Check.{Checked, network-refused, labels-refused, list-wrong, accepted}

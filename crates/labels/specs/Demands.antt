@@ -7,8 +7,8 @@ use Rattle.paths.specs.Network.{Walk, weight}
 use Rattle.paths.specs.TradeOff.{Skyline}
 use Rattle.paths.specs.Forest.{Above}
 use Rattle.network.specs.NetworkFile.{networkOf}
-use Rattle.files.specs.LabelFile.{parentsOf}
-use Rattle.files.specs.Stored.{stored}
+use Rattle.forest.specs.LabelFile.{parentsOf}
+use Rattle.stored.specs.Stored.{stored}
 use Rattle.labels.specs.Batch.{BatchDone}
 
 -- "each stored list is the complete trade-off list of its two junctions: every pair is a real path's, none is beaten, none is absent"

@@ -7,7 +7,7 @@ use Rattle.paths.specs.Weights.{pair}
 use Rattle.paths.specs.Route.{FirstRoute}
 use Rattle.refusals.specs.Lent.{filled}
 use Rattle.network.specs.NetworkFile.{networkOf}
-use Rattle.files.specs.Formed.{Tables}
+use Rattle.stored.specs.Formed.{Tables}
 use Rattle.labels.specs.Check.{Checked}
 use Rattle.labels.specs.Batch.{TripleAnswered}
 

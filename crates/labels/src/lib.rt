@@ -9,7 +9,7 @@ ghost use Prim.Native.Nat.{_+_, _≤_};
 ghost use mathlib.Core.Path.{_≡_};
 ghost use lib.ListN.{length};
 ghost use Rattle.lists.specs.Answers.{Join, LimitedJoin, joinNumberOf, joinCountOf, sumNumberOf, sumTimeOf, sumEnergyOf};
-ghost use Rattle.files.specs.Stored.{listPlace};
+ghost use Rattle.stored.specs.Stored.{listPlace};
 ghost use Rattle.files.specs.Shown.{Shown};
 ghost use Rattle.labels.specs.Check.{Checked};
 ghost use Rattle.labels.specs.Batch.{BatchDone};

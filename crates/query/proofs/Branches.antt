@@ -10,12 +10,12 @@ use Rattle.paths.specs.Forest.{Above, parent-is, Ancestor, Related, Common}
 use Rattle.paths.proofs.Forest.{ancestor-trans, ancestor-of-parent, ancestors-related}
 use Rattle.network.specs.NetworkFile.{junctionsOf}
 use Rattle.network.specs.Reads.{ReadU16}
-use Rattle.files.specs.LabelFile.{parentAt, noParent, parentsOf}
-use Rattle.files.specs.Forest.{depthOf, ancestorOf}
-use Rattle.files.specs.Formed.{ParentsFit, DepthsFilled}
-use Rattle.files.specs.ParentsRead.{AncestorRead}
-use Rattle.files.proofs.Chains.{ancestor-none, depth-some, one-up, climbed}
-use Rattle.files.proofs.Forest.{above-shallower, parents-child, ancestor-is-up}
+use Rattle.forest.specs.LabelFile.{parentAt, noParent, parentsOf}
+use Rattle.forest.specs.Forest.{depthOf, ancestorOf}
+use Rattle.forest.specs.Fits.{ParentsFit, DepthsFilled}
+use Rattle.forest.specs.ParentsRead.{AncestorRead}
+use Rattle.forest.proofs.Chains.{ancestor-none, depth-some, one-up, climbed}
+use Rattle.forest.proofs.Forest.{above-shallower, parents-child, ancestor-is-up}
 use Rattle.query.specs.Meeting.{MeetsAt}
 
 -- ---- No step, and a depth read

@@ -12,11 +12,11 @@ use Rattle.refusals.specs.Lent.{filled}
 use Rattle.lists.specs.Entries.{Weight, entries, entryAt, IsList}
 use Rattle.lists.specs.Sums.{Leading}
 use Rattle.lists.proofs.Entries.{AtIndex, member-index, index-member, energy-rises-far, time-falls-far}
-use Rattle.files.specs.LabelFile.{countAt, timeAt, energyAt}
-use Rattle.files.specs.Stored.{tabulate, listAt}
-use Rattle.files.specs.Formed.{ListFits}
-use Rattle.files.specs.Scanned.{Loaded}
-use Rattle.files.proofs.Tabulate.{length-tabulate, getD-tabulate}
+use Rattle.forest.specs.LabelFile.{countAt, timeAt, energyAt}
+use Rattle.stored.specs.Stored.{tabulate, listAt}
+use Rattle.stored.specs.Formed.{ListFits}
+use Rattle.stored.specs.Scanned.{Loaded}
+use Rattle.stored.proofs.Tabulate.{length-tabulate, getD-tabulate}
 use Rattle.query.specs.declared.Answer.{Answer}
 use Rattle.query.specs.declared.Answer.the-variants as case
 use Rattle.query.specs.Prepared.{Lent}

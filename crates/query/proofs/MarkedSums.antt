@@ -16,12 +16,12 @@ use Rattle.lists.specs.declared.Places.{Places}
 use Rattle.lists.specs.declared.Places.the-variants.{Nowhere}
 use Rattle.lists.proofs.Entries.{member-index, bestPlaces-bestSum, nowhere-noSum, places-sum}
 use Rattle.network.specs.NetworkFile.{junctionsOf}
-use Rattle.files.specs.LabelFile.{listEnd}
-use Rattle.files.specs.Forest.{depthOf}
-use Rattle.files.specs.Stored.{listsBefore, placeOf, listPlace}
-use Rattle.files.specs.Formed.{Formed, ListFits}
-use Rattle.files.specs.Scanned.{FoundList}
-use Rattle.files.proofs.Places.{list-takes, place-next, list-number-of}
+use Rattle.forest.specs.LabelFile.{listEnd}
+use Rattle.forest.specs.Forest.{depthOf}
+use Rattle.stored.specs.Stored.{listsBefore, placeOf, listPlace}
+use Rattle.stored.specs.Formed.{Formed, ListFits}
+use Rattle.stored.specs.Scanned.{FoundList}
+use Rattle.stored.proofs.Places.{list-takes, place-next, list-number-of}
 use Rattle.query.specs.declared.Answer.{Answer}
 use Rattle.query.specs.declared.Answer.the-variants as case
 use Rattle.query.specs.Answers.{numberOf, timeOf, energyOf}

@@ -16,11 +16,12 @@ use Rattle.network.specs.Reads.{ReadU16}
 use Rattle.network.specs.NetworkFile.{junctionsOf, roadsOf, roadTime, roadEnergy, RoadArc, networkOf}
 use Rattle.network.specs.RoadsRead.{FilledBelow}
 use Rattle.network.proofs.Arcs.{two-way}
-use Rattle.files.specs.LabelFile.{parentsOf}
-use Rattle.files.specs.Forest.{depthOf, ancestorOf, isAncestor, roadJoins}
-use Rattle.files.specs.Formed.{ParentsFit, DepthsFilled, Beside}
-use Rattle.files.proofs.Chains.{climbed}
-use Rattle.files.proofs.Forest.{above-shallower, above-at, is-ancestor-sound, is-ancestor-complete, low-on-map, high-on-map, joined-related}
+use Rattle.forest.specs.LabelFile.{parentsOf}
+use Rattle.forest.specs.Forest.{depthOf, ancestorOf, isAncestor, roadJoins}
+use Rattle.forest.specs.Fits.{ParentsFit, DepthsFilled}
+use Rattle.stored.specs.Formed.{Beside}
+use Rattle.forest.proofs.Chains.{climbed}
+use Rattle.forest.proofs.Forest.{above-shallower, above-at, is-ancestor-sound, is-ancestor-complete, low-on-map, high-on-map, joined-related}
 use Rattle.query.specs.Meeting.{HopMarks}
 use Rattle.query.specs.Marking.{OneMark, OnBranch, CrossingDepth, crosses, passes-by, RoadMark}
 use Rattle.query.proofs.Branches.{no-climb, no-deeper, shallower-ancestor, strictly-above, stays-above}

@@ -21,13 +21,13 @@ use Rattle.paths.proofs.Crossing.{hoplinks-cut, apart-without-common}
 use Rattle.paths.proofs.CutSums.{ListsAcross, walk-has-sum, sum-has-walk}
 use Rattle.lists.specs.Entries.{Weight}
 use Rattle.network.specs.NetworkFile.{networkOf, junctionsOf}
-use Rattle.files.specs.LabelFile.{parentsOf}
-use Rattle.files.specs.Forest.{depthOf, ancestorOf}
-use Rattle.files.specs.Stored.{listAt, stored}
-use Rattle.files.specs.Formed.{ParentsFit}
-use Rattle.files.specs.Scanned.{FoundList}
-use Rattle.files.proofs.Chains.{climbed}
-use Rattle.files.proofs.Forest.{AncestorAt, ancestor-at, above-shallower}
+use Rattle.forest.specs.LabelFile.{parentsOf}
+use Rattle.forest.specs.Forest.{depthOf, ancestorOf}
+use Rattle.stored.specs.Stored.{listAt, stored}
+use Rattle.forest.specs.Fits.{ParentsFit}
+use Rattle.stored.specs.Scanned.{FoundList}
+use Rattle.forest.proofs.Chains.{climbed}
+use Rattle.forest.proofs.Forest.{AncestorAt, ancestor-at, above-shallower}
 use Rattle.exact.proofs.Exactness.{roads-two-way, parents-forest, roads-joined}
 use Rattle.query.specs.declared.Answer.{Answer}
 use Rattle.query.specs.Prepared.{Prepared}

@@ -7,8 +7,8 @@ use Rattle.paths.specs.Weights.{energy}
 use Rattle.paths.specs.TradeOff.{IsSum}
 use Rattle.lists.specs.Entries.{Weight}
 use Rattle.network.specs.NetworkFile.{junctionsOf}
-use Rattle.files.specs.Forest.{depthOf}
-use Rattle.files.specs.Stored.{listsBefore, placeOf, listAt}
+use Rattle.forest.specs.Forest.{depthOf}
+use Rattle.stored.specs.Stored.{listsBefore, placeOf, listAt}
 
 -- The byte behind v's lists for its ancestors of depth k and deeper: where its list for the ancestor of depth k - 1 starts
 abbrev pub behind : List ℕ → ℕ → ℕ → ℕ

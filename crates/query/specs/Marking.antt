@@ -6,8 +6,8 @@ use lib.ListN.{length, getD}
 use Rattle.paths.specs.Weights.{weights, energy}
 use Rattle.paths.specs.Forest.{Above, Ancestor, WorkingSet}
 use Rattle.network.specs.NetworkFile.{junctionsOf, RoadArc, networkOf}
-use Rattle.files.specs.LabelFile.{parentsOf}
-use Rattle.files.specs.Forest.{depthOf, ancestorOf}
+use Rattle.forest.specs.LabelFile.{parentsOf}
+use Rattle.forest.specs.Forest.{depthOf, ancestorOf}
 
 -- Of the places up to `own` the last alone is marked
 pub record OneMark (marks : List ℕ) (own : ℕ) : Type 0 where

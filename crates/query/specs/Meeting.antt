@@ -5,8 +5,8 @@ use Prim.Native.Nat.{ℕ, _-_, _≤_, _<_}
 use lib.ListN.{length, getD}
 use Rattle.paths.specs.Forest.{Common, Deepest, WorkingSet}
 use Rattle.network.specs.NetworkFile.{networkOf, junctionsOf}
-use Rattle.files.specs.LabelFile.{parentsOf}
-use Rattle.files.specs.Forest.{depthOf, ancestorOf}
+use Rattle.forest.specs.LabelFile.{parentsOf}
+use Rattle.forest.specs.Forest.{depthOf, ancestorOf}
 use Rattle.query.specs.declared.Meeting.{Meeting}
 use Rattle.query.specs.declared.Meeting.the-variants.{At, Nowhere}
 

@@ -3,7 +3,8 @@ use mathlib.Core.Path.{_≡_}
 use mathlib.Core.List.{List}
 use Prim.Native.Nat.{ℕ}
 use lib.ListN.{length}
-use Rattle.files.specs.Formed.{DepthsFilled, StartsFilled, Beside}
+use Rattle.forest.specs.Fits.{DepthsFilled}
+use Rattle.stored.specs.Formed.{StartsFilled, Beside}
 use Rattle.exact.specs.Right.{EveryListRight}
 
 -- A network and labels that pass every test, with the two tables of the junctions

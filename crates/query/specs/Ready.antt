@@ -2,7 +2,7 @@
 use mathlib.Core.List.{List}
 use Prim.Native.Nat.{ℕ}
 use Rattle.exact.specs.Right.{Accepted}
-use Rattle.files.specs.Formed.{Tables}
+use Rattle.stored.specs.Formed.{Tables}
 
 pub record Ready (net s depths starts heads nexts : List ℕ) : Type 0 where
   pub accepted : Accepted net s

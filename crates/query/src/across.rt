@@ -1,19 +1,20 @@
 // The answer of two branches: the best sum of the two junctions' lists for the same ancestor, over all marked ancestors.
 use crate::Answer;
-use files::place::Place;
-use files::place::find_list;
-use files::stored::load;
 use lists::Places;
 use lists::sums::best_sum;
 use lists::sums::sum_at;
 use paths::energy::Energy;
+use stored::place::Place;
+use stored::place::find_list;
+use stored::stored::load;
 ghost use mathlib.Core.Path.{_≡_};
 ghost use Prim.Native.Nat.{suc, _<_};
 ghost use Rattle.paths.specs.Weights.{energy};
 ghost use Rattle.paths.specs.TradeOff.{IsSum};
 ghost use Rattle.lists.specs.Entries.{IsList, entries};
-ghost use Rattle.files.specs.Forest.{depthOf};
-ghost use Rattle.files.specs.Formed.{Formed, DepthsFilled, StartsFilled, ListFits};
+ghost use Rattle.forest.specs.Forest.{depthOf};
+ghost use Rattle.forest.specs.Fits.{DepthsFilled};
+ghost use Rattle.stored.specs.Formed.{Formed, StartsFilled, ListFits};
 ghost use Rattle.query.specs.AnswerFrom.{AnswerFrom, Better};
 ghost use Rattle.query.specs.Levels.{LevelSum, MarkedSum, Branches, Room};
 

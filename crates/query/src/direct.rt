@@ -1,14 +1,14 @@
 // The answer of one stored list: its last entry within the limit, since time falls as energy rises.
 use crate::Answer;
-use files::stored::load;
 use lists::within::within;
 use paths::energy::Energy;
 use paths::seconds::Seconds;
+use stored::stored::load;
 ghost use Prim.Native.Nat.{_≤_};
 ghost use lib.ListN.{length};
 ghost use Rattle.lists.specs.Entries.{IsList, entries};
-ghost use Rattle.files.specs.Stored.{listAt};
-ghost use Rattle.files.specs.Formed.{ListFits};
+ghost use Rattle.stored.specs.Stored.{listAt};
+ghost use Rattle.stored.specs.Formed.{ListFits};
 ghost use Rattle.query.specs.AnswerFrom.{EntryOf, AnswerFrom};
 
 fn last_within(times: &[u32], energies: &[u32], limit: Energy) -> Answer

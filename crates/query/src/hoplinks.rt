@@ -1,5 +1,5 @@
 // The hoplinks of a junction: itself and each proper ancestor that has a road to it or below it.
-use files::parents::is_ancestor;
+use forest::parents::is_ancestor;
 use network::bytes::u32_at;
 use network::roads::road_high;
 use network::roads::road_low;
@@ -7,7 +7,8 @@ ghost use mathlib.Core.Path.{_≡_};
 ghost use Prim.Native.Nat.{_<_};
 ghost use lib.ListN.{length};
 ghost use Rattle.network.specs.NetworkFile.{junctionsOf, roadsOf};
-ghost use Rattle.files.specs.Formed.{ParentsFit, DepthsFilled, Beside};
+ghost use Rattle.forest.specs.Fits.{ParentsFit, DepthsFilled};
+ghost use Rattle.stored.specs.Formed.{Beside};
 ghost use Rattle.query.specs.Meeting.{HopMarks};
 ghost use Rattle.query.specs.Marking.{OneMark, OnBranch, CrossingDepth, RoadMark};
 

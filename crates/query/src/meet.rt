@@ -1,13 +1,13 @@
 // Where two branches of the forest meet.
 use super::Meeting;
-use files::parents::ancestor_of;
-use files::parents::parent_at;
+use forest::parents::ancestor_of;
+use forest::parents::parent_at;
 ghost use mathlib.Core.Path.{_≡_};
 ghost use Prim.Native.Nat.{_-_, _<_};
 ghost use Rattle.network.specs.NetworkFile.{junctionsOf};
-ghost use Rattle.files.specs.Forest.{depthOf};
-ghost use Rattle.files.specs.Formed.{ParentsFit, DepthsFilled};
-ghost use Rattle.files.specs.ParentsRead.{AncestorRead};
+ghost use Rattle.forest.specs.Forest.{depthOf};
+ghost use Rattle.forest.specs.Fits.{ParentsFit, DepthsFilled};
+ghost use Rattle.forest.specs.ParentsRead.{AncestorRead};
 ghost use Rattle.query.specs.Meeting.{Meets};
 
 // The ancestor of v at depth `to`; v itself where it is no deeper.

@@ -5,7 +5,7 @@ use Prim.Native.Nat.{ℕ, suc, _≤_, _<_}
 use lib.ListN.{length}
 use Rattle.text.specs.Lines.{LineEnds, lineOf}
 use Rattle.network.specs.NetworkFile.{junctionsOf, roadsOf}
-use Rattle.files.specs.LabelFile.{entriesOf}
+use Rattle.forest.specs.LabelFile.{entriesOf}
 use Rattle.labels.specs.Check.{Checked}
 use Rattle.replies.specs.Lines.{headingLine, refusedLine}
 use Rattle.replies.specs.Reply.{Reply}

@@ -25,9 +25,9 @@ use Rattle.lists.specs.Entries.{Weight, times, energies}
 use Rattle.lists.proofs.JoinBackwards.{below-some, below-none, filled-end, Counting, counting-start, counting-more, counting-none, counting-end, Filling, filling-start, filling-more}
 use Rattle.network.specs.NetworkFile.{junctionsOf, networkOf}
 use Rattle.network.proofs.Arcs.{network-finite}
-use Rattle.files.specs.LabelFile.{parentsOf}
-use Rattle.files.specs.Stored.{stored, listPlace}
-use Rattle.files.proofs.Lists.{list-in-range}
+use Rattle.forest.specs.LabelFile.{parentsOf}
+use Rattle.stored.specs.Stored.{stored, listPlace}
+use Rattle.stored.proofs.Lists.{list-in-range}
 use Rattle.exact.proofs.Exactness.{stored-fits, parents-forest, roads-joined}
 use Rattle.query.specs.Prepared.{Prepared}
 use Rattle.query.specs.Answers.{Answers, off-map, not-connected, over-limit, found}

@@ -17,12 +17,12 @@ use Rattle.paths.proofs.Crossing.{apart-without-common}
 use Rattle.network.specs.NetworkFile.{networkOf}
 use Rattle.lists.specs.Entries.{Weight}
 use Rattle.lists.specs.Cover.{Decides}
-use Rattle.files.specs.LabelFile.{parentsOf, countAt, timeAt, energyAt, listEnd}
-use Rattle.files.specs.Forest.{depthOf}
-use Rattle.files.specs.Stored.{listAt, stored}
-use Rattle.files.specs.Formed.{Formed, ListFits}
-use Rattle.files.specs.Scanned.{FoundList}
-use Rattle.files.proofs.Tabulate.{Stands, member-stands, tabulate-member}
+use Rattle.forest.specs.LabelFile.{parentsOf, countAt, timeAt, energyAt, listEnd}
+use Rattle.forest.specs.Forest.{depthOf}
+use Rattle.stored.specs.Stored.{listAt, stored}
+use Rattle.stored.specs.Formed.{Formed, ListFits}
+use Rattle.stored.specs.Scanned.{FoundList}
+use Rattle.stored.proofs.Tabulate.{Stands, member-stands, tabulate-member}
 use Rattle.exact.proofs.Exactness.{parents-forest, roads-joined}
 use Rattle.query.specs.Prepared.{Prepared}
 use Rattle.query.specs.Meeting.{MeetsAt, HopMarks}

@@ -5,7 +5,7 @@ use Prim.Native.Nat.{ℕ, _+_, _-_, _≤_, _<_}
 use lib.ListN.{getD}
 use Rattle.paths.specs.Weights.{weights, energy}
 use Rattle.lists.specs.Entries.{Weight}
-use Rattle.files.specs.LabelFile.{countAt, timeAt, energyAt}
+use Rattle.forest.specs.LabelFile.{countAt, timeAt, energyAt}
 
 -- A pair of the set takes no more than p
 pub record HasWithin (Has : Weight → Type 0) (p : Weight) : Type 0 where

@@ -4,7 +4,7 @@ use Prim.Native.Nat.{_≤_, _-_}
 use native.Mathlib.Omega.{arith}
 use lib.ListN.{getD, length}
 use borrow.Author.Needs.{needs}
-use Rattle.files.proofs.Tabulate.{Filling, filling-none, filling-more, filling-places}
+use Rattle.stored.proofs.Tabulate.{Filling, filling-none, filling-more, filling-places}
 use Rattle.labels.proofs.lent.fill_first.Statement.{statement}
 use Rattle.labels.proofs.lent.fill_first.Tie as tie
 

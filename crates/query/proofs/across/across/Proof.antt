@@ -4,7 +4,7 @@ use Prim.Native.Nat.{suc, _-_}
 use native.Mathlib.Omega.{arith}
 use borrow.Author.Needs.{needs}
 use lib.ListN.{length}
-use Rattle.files.specs.Forest.{depthOf}
+use Rattle.forest.specs.Forest.{depthOf}
 use Rattle.query.proofs.LoadedLists.{room-again}
 use Rattle.query.proofs.MarkedSums.{Climb, climb-starts, climb-near, climb-far, climb-level, climb-more, climb-ends, count-inside}
 use Rattle.query.proofs.across.across.Statement.{statement}

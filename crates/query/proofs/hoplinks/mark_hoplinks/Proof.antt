@@ -2,7 +2,7 @@
 use mathlib.Core.Path.{_∙_}
 use Prim.Native.Nat.{_-_}
 use native.Mathlib.Omega.{arith}
-use Rattle.files.proofs.ParentLoops.{depths-small}
+use Rattle.forest.proofs.ParentLoops.{depths-small}
 use Rattle.query.proofs.Branches.{depth-read}
 use Rattle.query.proofs.Marks.{Marking, marking-start, mark-inside, marking-more, marking-end}
 use borrow.Author.Needs.{needs}

@@ -1,7 +1,7 @@
 -- The list that is found is the stored one, and fits.
 use borrow.Author.Needs.{needs}
-use Rattle.files.proofs.Forest.{above-shallower}
-use Rattle.files.proofs.Places.{found-fits}
+use Rattle.forest.proofs.Forest.{above-shallower}
+use Rattle.stored.proofs.Places.{found-fits}
 use Rattle.query.proofs.WholeAnswers.{found-stored}
 use Rattle.query.proofs.limited.to_ancestor.Statement.{statement}
 use Rattle.query.proofs.limited.to_ancestor.Tie as tie

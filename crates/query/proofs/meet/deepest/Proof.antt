@@ -1,5 +1,5 @@
 -- The deeper junction is raised to the depth of the other; then both climb side by side until they meet or are different roots.
-use Rattle.files.specs.Forest.{depthOf}
+use Rattle.forest.specs.Forest.{depthOf}
 use Rattle.query.proofs.Branches.{depth-read, SideBySide, side-start, side-met, side-roots, side-less, side-more}
 use borrow.Author.Needs.{needs}
 use Rattle.query.proofs.meet.deepest.Statement.{statement}

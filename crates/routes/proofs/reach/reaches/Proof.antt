@@ -1,7 +1,7 @@
 -- A junction and itself, two trees, one above the other, two branches: in each case the pairs that are searched stand for all paths.
 use native.Mathlib.Omega.{arith}
-use Rattle.files.proofs.Forest.{above-shallower}
-use Rattle.files.proofs.Places.{found-fits}
+use Rattle.forest.proofs.Forest.{above-shallower}
+use Rattle.stored.proofs.Places.{found-fits}
 use Rattle.query.proofs.WholeAnswers.{meets-at, meets-nowhere, meets-start, meets-finish, meets-above}
 use Rattle.routes.proofs.Searching.{reach-itself, reach-apart, reach-up, reach-down, reach-across}
 use borrow.Author.Needs.{needs}

@@ -3,7 +3,7 @@ use mathlib.Core.Path.{_≡_, refl, _∙_}
 use mathlib.Core.Bool.{false}
 use Prim.Native.Nat.{suc, _-_}
 use native.Mathlib.Omega.{arith}
-use Rattle.files.specs.Forest.{depthOf}
+use Rattle.forest.specs.Forest.{depthOf}
 use Rattle.routes.proofs.Searching.{
   entry-inside,
   count-stands,

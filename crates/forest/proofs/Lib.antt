@@ -1,0 +1,5 @@
+-- Why the parents are read right. Read in this order.
+pub mod Chains
+pub mod Forest
+pub mod Pigeonhole
+pub mod ParentLoops

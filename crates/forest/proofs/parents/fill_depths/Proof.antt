@@ -1,0 +1,82 @@
+-- The loop has filled the depths below v, each below n; a parent that does not fit and a chain of n steps fail.
+use native.Mathlib.Omega.{arith}
+use Prim.Native.Nat.{_-_}
+use Rattle.forest.proofs.ParentLoops.{Filling, tested-misfit, can-climb, filling-start, filling-returns, filling-more, filling-end}
+use borrow.Author.Needs.{needs}
+use Rattle.forest.proofs.parents.fill_depths.Statement.{statement}
+use Rattle.forest.proofs.parents.fill_depths.Tie as tie
+
+abbrev Inv-loop : tie.InvT-loop
+Inv-loop labels depths₀ n end v₀ depths v = Filling labels depths v
+
+abbrev μ-loop : tie.MeasureT-loop
+μ-loop labels depths₀ n end v₀ depths v = end - v
+
+u16-at-requires : tie.Need-u16-at-requires Inv-loop μ-loop
+u16-at-requires c κs = search needs
+
+parents-fit-requires : tie.Need-parents-fit-requires Inv-loop μ-loop
+parents-fit-requires c κs = search needs
+
+returns : tie.Need-returns Inv-loop μ-loop
+returns c = search (tested-misfit)
+
+cast-end : tie.Need-cast-end Inv-loop μ-loop
+cast-end c = search needs
+
+loop-holds : tie.Need-loop-holds Inv-loop μ-loop
+loop-holds c = search (filling-start)
+
+steps-up-requires : tie.Need-steps-up-requires Inv-loop μ-loop
+steps-up-requires c κs = search (can-climb)
+
+returns-2 : tie.Need-returns-2 Inv-loop μ-loop
+returns-2 c =
+    let start = c .before .before .before .before in
+    filling-returns
+    (start .before .before .before .before .pre .0)
+    (start .before .before .u16-at .ensures .is)
+    (start .before .parents-fit .ensures)
+    (start .if1 .left)
+    (c .before .before .before .loop .inv)
+    (omega arith)
+    (c .before .steps-up .ensures)
+    (omega arith)
+
+mul-depths : tie.Need-mul-depths Inv-loop μ-loop
+mul-depths c = search needs
+
+element-write-depths : tie.Need-element-write-depths Inv-loop μ-loop
+element-write-depths c = search needs
+
+add-v : tie.Need-add-v Inv-loop μ-loop
+add-v c = search needs
+
+loop-less : tie.Need-loop-less Inv-loop μ-loop
+loop-less c = search needs
+
+loop-again : tie.Need-loop-again Inv-loop μ-loop
+loop-again c = search (filling-more)
+
+returns-3 : tie.Need-returns-3 Inv-loop μ-loop
+returns-3 c = search (filling-end)
+
+pub fill-depths-spec : {M : Type 1} → statement M
+fill-depths-spec =
+    tie.close
+    (tie.spec
+    Inv-loop
+    μ-loop
+    u16-at-requires
+    parents-fit-requires
+    returns
+    cast-end
+    loop-holds
+    steps-up-requires
+    returns-2
+    mul-depths
+    element-write-depths
+    add-v
+    loop-less
+    loop-again
+    returns-3)

@@ -1,0 +1,20 @@
+-- What parents that passed 15 hold, as facts for those who read them further; `proofs/` shows that passing gives them.
+use mathlib.Core.Path.{_≡_}
+use mathlib.Core.Bool.{true}
+use mathlib.Core.List.{List}
+use Prim.Native.Nat.{ℕ, _+_, _*_, _≤_, _<_}
+use lib.ListN.{length, getD}
+use Rattle.network.specs.NetworkFile.{junctionsOf}
+use Rattle.forest.specs.Forest.{depthOf, parentFits}
+
+-- Parents that passed 15
+pub record ParentsFit (s : List ℕ) : Type 0 where
+  pub few-junctions : junctionsOf s ≤ 1024
+  pub inside : 16 + 2 * junctionsOf s ≤ length s
+  pub fits : (v : ℕ) → v < junctionsOf s → parentFits s v ≡ true
+  pub ends : (v : ℕ) → v < junctionsOf s → depthOf s v < junctionsOf s
+
+-- The depths of the junctions, worked out once per call
+pub record DepthsFilled (s depths : List ℕ) : Type 0 where
+  pub places : length depths ≡ 1024
+  pub depth : (v : ℕ) → v < junctionsOf s → getD depths v 0 ≡ depthOf s v

@@ -1,0 +1,2 @@
+// The forest of a label file: its parents, read once, and their depths.
+pub mod parents;

@@ -1,0 +1,162 @@
+// The parents of the label file: depths, ancestors, and what 15 and 16 ask of them.
+use network::bytes::u16_at;
+use network::bytes::u32_at;
+ghost use mathlib.Core.Path.{_≡_};
+ghost use mathlib.Core.Bool.{true, _&&_};
+ghost use Prim.Native.Nat.{_+_, _*_, _≤_, _<_};
+ghost use lib.ListN.{length};
+ghost use Rattle.refusals.specs.Order.{every};
+ghost use Rattle.network.specs.Reads.{ReadU16};
+ghost use Rattle.network.specs.NetworkFile.{junctionsOf, roadsOf};
+ghost use Rattle.forest.specs.Forest.{depthOf, parentFits, isAncestor, roadJoins};
+ghost use Rattle.forest.specs.Fits.{ParentsFit, DepthsFilled};
+ghost use Rattle.network.specs.Fits.{NetworkFits};
+ghost use Rattle.forest.specs.ParentsRead.{ParentsStand, Climbable, ParentsTested, AncestorRead};
+
+const NO_PARENT: u32 = 65535;
+
+pub fn parent_at(labels: &[u8], v: usize) -> u32
+    requires { ⌜ 18 + 2 * v ≤ length (now labels) ⌝ }
+    ensures { λ r. ⌜ ReadU16 (now (labels .entry)) (16 + 2 * v) r ⌝ }
+{
+    u16_at(labels, 16 + 2 * v)
+}
+
+fn parent_fits(labels: &[u8], n: u32, v: usize) -> bool
+    requires { ⌜ n ≡ junctionsOf (now labels) ⌝ }
+    requires { ⌜ 18 + 2 * v ≤ length (now labels) ⌝ }
+    ensures { λ r. ⌜ r ≡ parentFits (now (labels .entry)) v ⌝ }
+{
+    let parent = parent_at(labels, v);
+    if parent < n {
+        return true;
+    }
+    parent == NO_PARENT
+}
+
+// Whether each parent is a junction or none.
+fn parents_fit(labels: &[u8], n: u32) -> bool
+    requires { ⌜ ParentsStand (now labels) ⌝ }
+    requires { ⌜ n ≡ junctionsOf (now labels) ⌝ }
+    ensures { λ r. ⌜ r ≡ every (parentFits (now (labels .entry))) (junctionsOf (now (labels .entry))) ⌝ }
+{
+    let end = n as usize;
+    let mut v: usize = 0;
+    while v < end {
+        if !parent_fits(labels, n, v) {
+            return false;
+        }
+        v += 1;
+    }
+    true
+}
+
+// The depth of v, n where its chain returns: n steps have met a junction twice.
+fn steps_up(labels: &[u8], n: u32, v: usize) -> u32
+    requires { ⌜ Climbable (now labels) n v ⌝ }
+    ensures { λ r. ⌜ r ≡ depthOf (now (labels .entry)) v ⌝ }
+{
+    let mut u = v;
+    let mut steps: u32 = 0;
+    while steps < n {
+        let parent = parent_at(labels, u);
+        if parent == NO_PARENT {
+            return steps;
+        }
+        u = parent as usize;
+        steps += 1;
+    }
+    steps
+}
+
+// Whether the parents keep the rules of 15. If they do, the depths of all junctions are filled.
+pub fn fill_depths(labels: &[u8], depths: &mut [u32; 1024]) -> bool
+    requires { ⌜ ParentsStand (now labels) ⌝ }
+    requires { ⌜ length (now depths) ≡ 1024 ⌝ }
+    ensures { λ r. ⌜ ParentsTested (now (labels .entry)) (now (depths .exit)) r ⌝ }
+{
+    let n = u16_at(labels, 6);
+    if !parents_fit(labels, n) {
+        return false;
+    }
+    let end = n as usize;
+    let mut v: usize = 0;
+    while v < end {
+        let depth = steps_up(labels, n, v);
+        if depth >= n {
+            return false;
+        }
+        depths[v] = depth;
+        v += 1;
+    }
+    true
+}
+
+// The k-th ancestor of v.
+pub fn ancestor_of(labels: &[u8], v: usize, k: usize) -> usize
+    requires { ⌜ ParentsFit (now labels) ⌝ }
+    requires { ⌜ v < junctionsOf (now labels) ⌝ }
+    requires { ⌜ k ≤ depthOf (now labels) v ⌝ }
+    ensures { λ r. ⌜ AncestorRead (now (labels .entry)) v k r ⌝ }
+{
+    let mut u = v;
+    let mut steps: usize = 0;
+    while steps < k {
+        let parent = parent_at(labels, u);
+        u = parent as usize;
+        steps += 1;
+    }
+    u
+}
+
+// Whether u is v or an ancestor of v.
+pub fn is_ancestor(labels: &[u8], depths: &[u32; 1024], u: usize, v: usize) -> bool
+    requires { ⌜ ParentsFit (now labels) ⌝ }
+    requires { ⌜ DepthsFilled (now labels) (now depths) ⌝ }
+    requires { ⌜ u < junctionsOf (now labels) ⌝ }
+    requires { ⌜ v < junctionsOf (now labels) ⌝ }
+    ensures { λ r. ⌜ r ≡ isAncestor (now (labels .entry)) u v ⌝ }
+{
+    let above = depths[u];
+    let below = depths[v];
+    if below < above {
+        return false;
+    }
+    let steps = below - above;
+    ancestor_of(labels, v, steps as usize) == u
+}
+
+fn road_joins(net: &[u8], labels: &[u8], depths: &[u32; 1024], k: usize) -> bool
+    requires { ⌜ NetworkFits (now net) ⌝ }
+    requires { ⌜ junctionsOf (now net) ≡ junctionsOf (now labels) ⌝ }
+    requires { ⌜ ParentsFit (now labels) ⌝ }
+    requires { ⌜ DepthsFilled (now labels) (now depths) ⌝ }
+    requires { ⌜ k < roadsOf (now net) ⌝ }
+    ensures { λ r. ⌜ r ≡ roadJoins (now (net .entry)) (now (labels .entry)) k ⌝ }
+{
+    let low = u16_at(net, 16 + 8 * k) as usize;
+    let high = u16_at(net, 18 + 8 * k) as usize;
+    if is_ancestor(labels, depths, low, high) {
+        return true;
+    }
+    is_ancestor(labels, depths, high, low)
+}
+
+// Whether every road joins an ancestor and a descendant, as 16 asks.
+pub fn roads_join(net: &[u8], labels: &[u8], depths: &[u32; 1024]) -> bool
+    requires { ⌜ NetworkFits (now net) ⌝ }
+    requires { ⌜ junctionsOf (now net) ≡ junctionsOf (now labels) ⌝ }
+    requires { ⌜ ParentsFit (now labels) ⌝ }
+    requires { ⌜ DepthsFilled (now labels) (now depths) ⌝ }
+    ensures { λ r. ⌜ r ≡ every (roadJoins (now (net .entry)) (now (labels .entry))) (roadsOf (now (net .entry))) ⌝ }
+{
+    let roads = u32_at(net, 8) as usize;
+    let mut k: usize = 0;
+    while k < roads {
+        if !road_joins(net, labels, depths, k) {
+            return false;
+        }
+        k += 1;
+    }
+    true
+}

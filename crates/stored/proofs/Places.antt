@@ -1,0 +1,193 @@
+-- Where the lists stand. In this order: each list stands behind the one before; a number of lists further on; how many lists the
+-- junctions have; entries and bytes; places inside the file; finding the list of a junction and its proper ancestor.
+use mathlib.Core.Path.{_≡_, refl, sym, ap, _∙_}
+use mathlib.Core.List.{List}
+use Prim.Native.Nat.{ℕ, zero, suc, _+_, _-_, _*_, _≤_, _<_}
+use native.Mathlib.Omega.{arith}
+use native.Mathlib.Nat.{add-zero, add-suc}
+use native.Mathlib.Numerals.{add-one}
+use native.Mathlib.Decide.{ℕ-discrete}
+use lib.ListN.{length, getD}
+use Rattle.network.specs.NetworkFile.{junctionsOf}
+use Rattle.forest.specs.LabelFile.{countAt, listEnd}
+use Rattle.forest.specs.Forest.{depthOf}
+use Rattle.stored.specs.Stored.{listsBefore, listsOf, placeOf, startOf, listPlace, entriesBefore}
+use Rattle.forest.specs.Fits.{DepthsFilled}
+use Rattle.stored.specs.Formed.{ListFits, Formed, StartsFilled}
+use Rattle.stored.specs.Scanned.{further, FoundList}
+
+module _ (s : List ℕ) where
+  -- ---- Each list stands behind the one before
+
+  -- a list takes the two bytes of its count at least
+  pub list-takes : (at : ℕ) → at + 2 ≤ listEnd s at
+  unfolding listEnd
+  list-takes at = omega arith
+
+  -- list number g + 1 starts where list number g ends
+  pub place-next : (g : ℕ) → placeOf s (g + 1) ≡ listEnd s (placeOf s g)
+  unfolding placeOf
+  place-next g = rw (add-one g)
+
+  -- places rise from list to list
+  pub places-rise : (g : ℕ) → placeOf s g + 2 ≤ placeOf s (g + 1)
+  places-rise g = rw (place-next g) (list-takes (placeOf s g))
+
+  -- ---- A number of lists further on
+
+  -- one list more
+  pub further-next : (at k : ℕ) → further s at (k + 1) ≡ listEnd s (further s at k)
+  unfolding further
+  further-next at k = rw (add-one k)
+
+  -- no list further is here
+  pub further-none : (at : ℕ) → further s at 0 ≡ at
+  unfolding further
+  further-none at = refl
+
+  -- a later list stands further on, by the two bytes of a count at least
+  pub further-rises : (at : ℕ) {i k : ℕ} → i < k → further s at i + 2 ≤ further s at k
+  unfolding further
+  further-rises at {i} {k = zero} h = absurd (omega arith)
+  further-rises at {i} {k = suc k} h = pick (λ below. further-rises at below) (ℕ-discrete i k)
+    where
+      pick : (i < k → further s at i + 2 ≤ further s at k) → Dec (i ≡ k) → further s at i + 2 ≤ listEnd s (further s at k)
+      pick f (yes e) = rw e (list-takes (further s at k))
+      pick f (no apart) = omega (arith, f (omega arith), list-takes (further s at k))
+
+  -- Of k moves from list to list, beginning at byte `at`, i are made: the place is at byte `here`
+  pub record Moved (at k i here : ℕ) : Type 0 where
+    pub few : i ≤ k
+    pub is : here ≡ further s at i
+
+  -- before the first move
+  pub moved-none : (at k : ℕ) → Moved at k 0 at
+  moved-none at k = record { few = omega arith; is = sym (further-none at) }
+
+  -- where the last list stands in the file, so do those before it
+  pub moved-inside : {at k i here : ℕ} → Moved at k i here → i < k → further s at k ≤ length s → here + 2 ≤ length s
+  moved-inside {at} moved h inside = omega (arith, moved .is, further-rises at h)
+
+  -- one move more
+  pub moved-more : {at k i here next : ℕ} → Moved at k i here → i < k → next ≡ listEnd s here → Moved at k (i + 1) next
+  moved-more {at} {k} {i} moved h e = record { few = omega arith; is = e ∙ ap (listEnd s) (moved .is) ∙ sym (further-next at i) }
+
+  -- all moves made
+  pub moved-all : {at k i here : ℕ} → Moved at k i here → k ≤ i → here ≡ further s at k
+  moved-all {at} {k} {i} moved h = moved .is ∙ ap (further s at) (omega arith)
+
+  -- from list number g, the list k further is number g + k
+  pub further-place : (g k : ℕ) → further s (placeOf s g) k ≡ placeOf s (g + k)
+  unfolding further placeOf
+  further-place g zero = rw (add-zero g)
+  further-place g (suc k) = rw (add-suc g k, further-place g k)
+
+  -- ---- How many lists the junctions have
+
+  -- v has as many lists as its depth
+  pub listsBefore-next : (v : ℕ) → listsBefore s (v + 1) ≡ listsBefore s v + depthOf s v
+  unfolding listsBefore
+  listsBefore-next v = rw (add-one v)
+
+  -- more junctions have no fewer lists
+  pub listsBefore-more : {v : ℕ} (w : ℕ) → v ≤ w → listsBefore s v ≤ listsBefore s w
+  unfolding listsBefore
+  listsBefore-more {v = zero} zero h = omega arith
+  listsBefore-more {v = suc v} zero h = absurd (omega arith)
+  listsBefore-more {v} (suc w) h = pick (λ below. listsBefore-more w below) (ℕ-discrete v (suc w))
+    where
+      pick : (v ≤ w → listsBefore s v ≤ listsBefore s w) → Dec (v ≡ suc w) → listsBefore s v ≤ listsBefore s w + depthOf s w
+      pick f (yes e) = rw e (omega arith)
+      pick f (no apart) = omega (arith, f (omega arith))
+
+  -- the lists of a junction are among the file's
+  pub lists-of-junction : {v : ℕ} → v < junctionsOf s → listsBefore s v + depthOf s v ≤ listsOf s
+  lists-of-junction {v} h = omega (arith, listsBefore-next v, listsBefore-more {v = v + 1} (junctionsOf s) (omega arith))
+
+  -- so the k-th list of a junction is one of the file's
+  pub list-number-of : {v k : ℕ} → v < junctionsOf s → k < depthOf s v → listsBefore s v + k < listsOf s
+  list-number-of h l = omega (arith, lists-of-junction h)
+
+  -- ---- Entries and bytes
+
+  -- list number g brings its count
+  pub entries-next : (g : ℕ) → entriesBefore s (g + 1) ≡ entriesBefore s g + countAt s (placeOf s g)
+  unfolding entriesBefore
+  entries-next g = rw (add-one g)
+
+  -- the bytes before list number g are the header, the parents, the counts and eight bytes for each entry
+  pub place-counts : (g : ℕ) → placeOf s g ≡ 16 + 2 * junctionsOf s + 2 * g + 8 * entriesBefore s g
+  unfolding placeOf listEnd entriesBefore
+  place-counts zero = omega arith
+  place-counts (suc g) = omega (arith, place-counts g)
+
+  -- so there are no more entries than bytes
+  pub entries-few : (g : ℕ) → entriesBefore s g ≤ placeOf s g
+  entries-few g = omega (arith, place-counts g)
+
+  -- ---- Places inside the file
+
+  -- behind lists that stand whole in the file the next place is inside it
+  pub places-inside : 16 + 2 * junctionsOf s ≤ length s → (g : ℕ) → ((h : ℕ) → h < g → ListFits s (placeOf s h)) → placeOf s g ≤ length s
+  unfolding placeOf
+  places-inside parents zero fit = parents
+  places-inside parents (suc g) fit = fit g (omega arith) .inside
+
+-- in a formed file every place of a list is inside
+pub formed-inside : {s : List ℕ} → Formed s → {g : ℕ} → g ≤ listsOf s → placeOf s g ≤ length s
+formed-inside {s} formed {g} h = places-inside s (formed .parents .inside) g (λ i below. formed .lists i (omega arith))
+
+-- a list that was found fits
+pub found-fits : {s : List ℕ} {v u at : ℕ} → Formed s → FoundList s v u at → ListFits s at
+found-fits formed found = rw (found .stands) (formed .lists (found .number) (found .below))
+
+-- ---- Finding the list of a junction and its proper ancestor
+
+-- The list of v and u stands k lists behind v's first, which is at byte `start`
+pub record Way (s : List ℕ) (v u start k : ℕ) : Type 0 where
+  pub on-map : v < junctionsOf s
+  pub deeper : depthOf s u < depthOf s v
+  pub begins : start ≡ startOf s v
+  pub between : k ≡ depthOf s v - depthOf s u - 1
+
+-- depths in a table differ as those of the junctions do
+pub deeper-in-table :
+    {s depths : List ℕ} {v u : ℕ} → DepthsFilled s depths → v < junctionsOf s → u < junctionsOf s → depthOf s u < depthOf s v →
+    getD depths u 0 < getD depths v 0
+deeper-in-table {v} {u} filled on-map u-on-map h = omega (arith, filled .depth v on-map, filled .depth u u-on-map)
+
+-- the way is read from the two tables
+pub way-read :
+    {s depths starts : List ℕ} {v u start deep shallow : ℕ} → DepthsFilled s depths → StartsFilled s starts → v < junctionsOf s →
+    u < junctionsOf s → depthOf s u < depthOf s v → deep ≡ getD depths v 0 → shallow ≡ getD depths u 0 → start ≡ getD starts v 0 →
+    Way s v u start (deep - shallow - 1)
+way-read {v} {u} depths-filled starts-filled on-map u-on-map h deep shallow start =
+    record {
+      on-map = on-map;
+      deeper = h;
+      begins = start ∙ starts-filled .start v on-map;
+      between = omega (arith, deep, shallow, depths-filled .depth v on-map, depths-filled .depth u u-on-map);
+    }
+
+-- it ends k lists behind v's first
+way-ends : {s : List ℕ} {v u start k : ℕ} → Way s v u start k → further s start k ≡ placeOf s (listsBefore s v + k)
+way-ends {s} {v} {k} way = rw (way .begins) (further-place s (listsBefore s v) k)
+
+-- it is one of the file's lists
+way-number : {s : List ℕ} {v u start k : ℕ} → Way s v u start k → listsBefore s v + k < listsOf s
+way-number {s} way = list-number-of s (way .on-map) (omega (arith, way .deeper, way .between))
+
+-- it stands in the file
+pub way-inside : {s : List ℕ} {v u start k : ℕ} → Formed s → Way s v u start k → further s start k ≤ length s
+way-inside formed way = rw (way-ends way) (formed-inside formed (omega (arith, way-number way)))
+
+-- and it is the one that was looked for
+pub way-found : {s : List ℕ} {v u start k at : ℕ} → Way s v u start k → at ≡ further s start k → FoundList s v u at
+unfolding listPlace
+way-found {s} {v} {k} way e =
+    record {
+      place = e ∙ way-ends way ∙ ap (λ i. placeOf s (listsBefore s v + i)) (way .between);
+      number = listsBefore s v + k;
+      below = way-number way;
+      stands = e ∙ way-ends way;
+    }

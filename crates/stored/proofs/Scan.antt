@@ -1,0 +1,216 @@
+-- Passing over lists: the laws of the two loops. In this order: the lists of one junction; the lists of all.
+use mathlib.Core.Path.{_≡_, refl, sym, ap, _∙_}
+use mathlib.Core.List.{List}
+use Prim.Native.Nat.{ℕ, zero, suc, _+_, _-_, _*_, _≤_, _<_}
+use native.Mathlib.Omega.{arith}
+use native.Mathlib.Nat.{add-zero}
+use native.Mathlib.Decide.{ℕ-discrete}
+use lib.ListN.{length, getD, set, length-set}
+use lib.Seq.{getD-set-same, getD-set-other}
+use Rattle.refusals.specs.Order.{decided, firstFault}
+use Rattle.refusals.proofs.Order.{faultsFrom, fault-next, fault-here, fault-end}
+use Rattle.network.specs.NetworkFile.{junctionsOf}
+use Rattle.forest.specs.LabelFile.{countAt, listEnd}
+use Rattle.forest.specs.Forest.{depthOf}
+use Rattle.stored.specs.Stored.{listsBefore, listsOf, placeOf, startOf, entriesBefore}
+use Rattle.stored.specs.ListForm.{listNumber, listsNumber}
+use Rattle.forest.specs.Fits.{ParentsFit, DepthsFilled}
+use Rattle.stored.specs.Formed.{StartsFilled}
+use Rattle.stored.specs.Scanned.{further, ScannedSome, Scanned}
+use Rattle.stored.proofs.Faults.{decided-fault, faults-joined, faults-moved}
+use Rattle.stored.proofs.Lists.{list-fits}
+use Rattle.stored.proofs.Places.{list-takes, further-none, further-next, further-place, listsBefore-next, lists-of-junction, place-counts}
+
+-- ---- The lists of one junction
+
+-- the number of the list i further than the one at byte `at`
+abbrev numberFurther : List ℕ → ℕ → ℕ → ℕ
+numberFurther s at i = listNumber s (further s at i)
+
+-- a list without fault stands whole in the file
+pub list-stands : (s : List ℕ) (here : ℕ) {number : ℕ} → number ≡ listNumber s here → number ≡ 0 → here + 2 ≤ length s
+list-stands s here e zero-is = omega (arith, list-takes s here, list-fits s here (sym e ∙ zero-is) .inside)
+
+module _ (s : List ℕ) (at depth total : ℕ) where
+  -- Of `depth` lists from byte `at` on k are passed, none with a fault: the next is at byte `here`
+  pub record Passed (k here sum : ℕ) : Type 0 where
+    pub few : k ≤ depth
+    pub place : here ≡ further s at k
+    pub inside : here ≤ length s
+    pub counted : at + 2 * k + 8 * sum ≡ here + 8 * total
+    pub left : firstFault (numberFurther s at) 0 depth ≡ faultsFrom (numberFurther s at) depth k
+
+  -- before the first list
+  pub passed-none : at ≤ length s → Passed 0 at total
+  passed-none inside =
+      record {
+        few = omega arith;
+        place = sym (further-none s at);
+        inside = inside;
+        counted = omega arith;
+        left = ap (firstFault (numberFurther s at) 0) (omega arith);
+      }
+
+  -- a list with a fault refuses
+  pub passed-fault :
+      {k here sum number : ℕ} → Passed k here sum → k < depth → number ≡ listNumber s here → (number ≡ 0 → ⊥) →
+      ScannedSome s at depth total number 0 0
+  passed-fault {k} {here} {number} passed h e apart =
+      record { is = decides; place = λ z. absurd (apart z); inside = λ z. absurd (apart z); counted = λ z. absurd (apart z) }
+    where
+      here-is : number ≡ listNumber s (further s at k)
+      here-is = e ∙ ap (listNumber s) (passed .place)
+
+      decides : number ≡ firstFault (numberFurther s at) 0 depth
+      decides = here-is ∙ sym (passed .left ∙ fault-here (numberFurther s at) h (λ z. apart (here-is ∙ z)))
+
+  -- a list without fault is passed
+  pub passed-more :
+      {k here sum number count next : ℕ} → Passed k here sum → k < depth → number ≡ listNumber s here → number ≡ 0 →
+      count ≡ countAt s here → next ≡ listEnd s here → Passed (k + 1) next (sum + count)
+  unfolding listEnd
+  passed-more {k} {here} passed h e zero-is is-count is-next =
+      record {
+        few = omega arith;
+        place = is-next ∙ ap (listEnd s) (passed .place) ∙ sym (further-next s at k);
+        inside = omega (arith, list-fits s here (sym e ∙ zero-is) .inside);
+        counted = omega (arith, passed .counted);
+        left = passed .left ∙ fault-next (numberFurther s at) h (ap (listNumber s) (sym (passed .place)) ∙ sym e ∙ zero-is);
+      }
+
+  -- all are passed
+  pub passed-all : {k here sum : ℕ} → Passed k here sum → depth ≤ k → ScannedSome s at depth total 0 here sum
+  passed-all {k} passed h =
+      record {
+        is = sym (passed .left ∙ fault-end (numberFurther s at) h);
+        place = λ z. passed .place ∙ ap (further s at) (omega arith);
+        inside = λ z. passed .inside;
+        counted = λ z. omega (arith, passed .counted);
+      }
+
+-- ---- The lists of all junctions
+
+-- the number of list number g
+abbrev numberAt : List ℕ → ℕ → ℕ
+numberAt s g = listNumber s (placeOf s g)
+
+module _ (s : List ℕ) where
+  -- The lists of the junctions below v are passed, none with a fault: those of v start at byte `at`
+  pub record AllPassed (v at total : ℕ) (starts : List ℕ) : Type 0 where
+    pub few : v ≤ junctionsOf s
+    pub place : at ≡ startOf s v
+    pub inside : at ≤ length s
+    pub counted : total ≡ entriesBefore s (listsBefore s v)
+    pub small : total ≤ at
+    pub left : listsNumber s ≡ faultsFrom (numberAt s) (listsOf s) (listsBefore s v)
+    pub places : length starts ≡ 1024
+    pub noted : (w : ℕ) → w < v → getD starts w 0 ≡ startOf s w
+
+  -- before the first junction
+  pub all-none : {n : ℕ} {starts : List ℕ} → ParentsFit s → n ≡ junctionsOf s → length starts ≡ 1024 → AllPassed 0 (16 + 2 * n) 0 starts
+  unfolding listsNumber listsBefore placeOf entriesBefore
+  all-none parents is-count places =
+      record {
+        few = omega arith;
+        place = ap (λ k. 16 + 2 * k) is-count;
+        inside = omega (arith, parents .inside);
+        counted = refl;
+        small = omega arith;
+        left = ap (firstFault (numberAt s) 0) (omega arith);
+        places = places;
+        noted = λ w h. absurd (omega arith);
+      }
+
+  module _ {v at total number behind sum depth : ℕ} {starts depths : List ℕ} (passed : AllPassed v at total starts)
+      (on-map : v < junctionsOf s) (filled : DepthsFilled s depths) (deep : depth ≡ getD depths v 0)
+      (scanned : ScannedSome s at depth total number behind sum) where
+    is-depth : depth ≡ depthOf s v
+    is-depth = deep ∙ filled .depth v on-map
+
+    -- the lists of v are the next ones of the file
+    next-place : (i : ℕ) → further s at i ≡ placeOf s (listsBefore s v + i)
+    next-place i = ap (λ p. further s p i) (passed .place) ∙ further-place s (listsBefore s v) i
+
+    behind-them : listsBefore s v + depth ≡ listsBefore s (v + 1)
+    behind-them = ap (λ k. listsBefore s v + k) is-depth ∙ sym (listsBefore-next s v)
+
+    last-place : further s at depth ≡ placeOf s (listsBefore s (v + 1))
+    last-place = next-place depth ∙ ap (placeOf s) behind-them
+
+    -- v's lists decide, or those behind them
+    split : listsNumber s ≡ decided number (faultsFrom (numberAt s) (listsOf s) (listsBefore s (v + 1)))
+    split =
+        passed .left ∙ ap (firstFault (numberAt s) (listsBefore s v)) count ∙
+        faults-joined (numberAt s) depth (listsBefore s v) (listsOf s - listsBefore s (v + 1)) ∙
+        rw (here, behind-them)
+      where
+        count : listsOf s - listsBefore s v ≡ depth + (listsOf s - listsBefore s (v + 1))
+        count = omega (arith, behind-them, is-depth, lists-of-junction s on-map)
+
+        here : firstFault (numberAt s) (listsBefore s v) depth ≡ number
+        here =
+            sym
+            (scanned .is ∙ faults-moved (numberFurther s at) (numberAt s) (listsBefore s v) (λ i. ap (listNumber s) (next-place i)) depth 0 ∙
+            ap (λ g. firstFault (numberAt s) g depth) (add-zero (listsBefore s v)))
+
+    -- a fault among v's lists refuses
+    pub all-fault : (number ≡ 0 → ⊥) → Scanned s (set starts v at) number behind sum
+    all-fault apart =
+        record {
+          is = sym (split ∙ decided-fault _ apart);
+          places = length-set starts v at ∙ passed .places;
+          behind = λ z. absurd (apart z);
+          sum = λ z. absurd (apart z);
+          starts-filled = λ z. absurd (apart z);
+        }
+
+    -- v's lists are passed
+    pub all-more : junctionsOf s ≤ 1024 → number ≡ 0 → AllPassed (v + 1) behind sum (set starts v at)
+    all-more few zero-is =
+        record {
+          few = omega arith;
+          place = scanned .place zero-is ∙ last-place;
+          inside = scanned .inside zero-is;
+          counted = counted;
+          small = omega (arith, counted, place-is, place-counts s (listsBefore s (v + 1)));
+          left = split ∙ rw zero-is;
+          places = length-set starts v at ∙ passed .places;
+          noted = λ w h. pick w h (ℕ-discrete w v);
+        }
+      where
+        place-is : behind ≡ placeOf s (listsBefore s (v + 1))
+        place-is = scanned .place zero-is ∙ last-place
+
+        counted : sum ≡ entriesBefore s (listsBefore s (v + 1))
+        counted =
+            omega (
+              arith,
+              scanned .counted zero-is,
+              passed .place,
+              passed .counted,
+              place-is,
+              is-depth,
+              listsBefore-next s v,
+              place-counts s (listsBefore s v),
+              place-counts s (listsBefore s (v + 1)),
+            )
+
+        pick : (w : ℕ) → w < v + 1 → Dec (w ≡ v) → getD (set starts v at) w 0 ≡ startOf s w
+        pick w h (yes e) =
+            ap (λ i. getD (set starts v at) i 0) e ∙ getD-set-same starts v at 0 (omega (arith, passed .places)) ∙ passed .place ∙
+            ap (startOf s) (sym e)
+        pick w h (no apart) = getD-set-other starts v w at 0 apart ∙ passed .noted w (omega arith)
+
+  -- all are passed
+  pub all-end : {v at total : ℕ} {starts : List ℕ} → AllPassed v at total starts → junctionsOf s ≤ v → Scanned s starts 0 at total
+  all-end {v} passed h =
+      record {
+        is = sym (passed .left ∙ fault-end (numberAt s) (omega (arith, ap (listsBefore s) all)));
+        places = passed .places;
+        behind = λ z. passed .place ∙ ap (startOf s) all;
+        sum = λ z. passed .counted ∙ ap (λ w. entriesBefore s (listsBefore s w)) all;
+        starts-filled = λ z. record { places = passed .places; start = λ w below. passed .noted w (omega arith) };
+      }
+    where
+      all : v ≡ junctionsOf s
+      all = omega (arith, passed .few)

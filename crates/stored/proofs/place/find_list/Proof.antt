@@ -1,0 +1,52 @@
+-- The lists of v follow each other from the parent upward, so u's stands as many behind the first as there are ancestors between.
+use Prim.Native.Nat.{_<_}
+use native.Mathlib.Omega.{arith}
+use borrow.Author.Needs.{needs}
+use Rattle.stored.proofs.Places.{deeper-in-table, way-read, way-inside, way-found}
+use Rattle.stored.proofs.place.find_list.Statement.{statement}
+use Rattle.stored.proofs.place.find_list.Tie as tie
+
+number-of-requires : tie.Need-number-of-requires
+number-of-requires c κs = search needs
+
+number-of-requires-2 : tie.Need-number-of-requires-2
+number-of-requires-2 c κs = search needs
+
+-- v is the deeper one
+deeper : (c : tie.After-number-of2) → c .number-of2 .result < c .before .number-of .result
+deeper c =
+    let pre = c .before .before .before .pre in
+    omega (arith, deeper-in-table (pre .1 .0) (pre .1 .1 .1 .0 .0) (pre .1 .1 .1 .0 .1) (pre .1 .1 .1 .1))
+
+sub-between : tie.Need-sub-between
+sub-between c = omega (arith, deeper c)
+
+sub-between-2 : tie.Need-sub-between-2
+sub-between-2 c = omega (arith, deeper c)
+
+number-of-requires-3 : tie.Need-number-of-requires-3
+number-of-requires-3 c κs = search needs
+
+skip-requires : tie.Need-skip-requires
+skip-requires c κs =
+    let pre = c .before .before .before .before .pre in (
+      way-inside (pre .0)
+          (way-read (pre .1 .0) (pre .1 .1 .0) (pre .1 .1 .1 .0 .0) (pre .1 .1 .1 .0 .1) (pre .1 .1 .1 .1)
+          (c .before .before .number-of .ensures) (c .before .number-of2 .ensures) (c .number-of3 .ensures)),
+      pre .0 .few-bytes,
+    )
+
+returns : tie.Need-returns
+returns c = search (way-found, way-read, needs)
+
+pub find-list-spec : {M : Type 1} → statement M
+find-list-spec =
+    tie.close
+    (tie.spec
+    number-of-requires
+    number-of-requires-2
+    sub-between
+    sub-between-2
+    number-of-requires-3
+    skip-requires
+    returns)

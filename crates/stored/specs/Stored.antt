@@ -1,0 +1,47 @@
+-- Where each stored list stands, and what it holds (document 01: "Then for junctions 0 to n−1, for each proper ancestor from the
+-- parent upward: a 16-bit count, 0 to 4,095, and that many entries").
+use mathlib.Core.List.{List, [], _∷_}
+use Prim.Native.Nat.{ℕ, zero, suc, _+_, _-_, _*_}
+use Rattle.paths.specs.Weights.{weights, energy, pair}
+use Rattle.network.specs.NetworkFile.{junctionsOf}
+use Rattle.forest.specs.LabelFile.{countAt, timeAt, energyAt, listEnd}
+use Rattle.forest.specs.Forest.{depthOf}
+
+-- How many lists the junctions below v have: one for each proper ancestor
+unfoldable pub listsBefore : List ℕ → ℕ → ℕ
+listsBefore s zero = 0
+listsBefore s (suc v) = listsBefore s v + depthOf s v
+
+abbrev pub listsOf : List ℕ → ℕ
+listsOf s = listsBefore s (junctionsOf s)
+
+-- The byte where list number g starts: the lists stand one after another behind the parents
+unfoldable pub placeOf : List ℕ → ℕ → ℕ
+placeOf s zero = 16 + 2 * junctionsOf s
+placeOf s (suc g) = listEnd s (placeOf s g)
+
+-- The byte where the lists of v start, or would
+abbrev pub startOf : List ℕ → ℕ → ℕ
+startOf s v = placeOf s (listsBefore s v)
+
+-- The byte where the list of v and its proper ancestor u starts
+unfoldable pub listPlace : List ℕ → ℕ → ℕ → ℕ
+listPlace s v u = placeOf s (listsBefore s v + (depthOf s v - depthOf s u - 1))
+
+-- How many entries the first g lists have
+unfoldable pub entriesBefore : List ℕ → ℕ → ℕ
+entriesBefore s zero = 0
+entriesBefore s (suc g) = entriesBefore s g + countAt s (placeOf s g)
+
+-- The numbers f 0, f 1, …, as many as n
+unfoldable pub tabulate : {A : Type 0} → (ℕ → A) → ℕ → List A
+tabulate f zero = []
+tabulate f (suc n) = f 0 ∷ tabulate (λ i. f (suc i)) n
+
+-- The entries of the list at byte `at`
+abbrev pub listAt : List ℕ → ℕ → List (weights energy .Figure)
+listAt s at = tabulate (λ j. pair (timeAt s at j) (energyAt s at j)) (countAt s at)
+
+-- The stored list of v and its proper ancestor u
+unfoldable pub stored : List ℕ → ℕ → ℕ → List (weights energy .Figure)
+stored s v u = listAt s (listPlace s v u)

@@ -1,0 +1,3 @@
+// The stored lists of a label file: where each stands, and what it holds.
+pub mod place;
+pub mod stored;

@@ -1,0 +1,235 @@
+// Stored lists: which number one is refused by, one pass over all of them, and loading one into lent slices.
+use crate::place::Place;
+use network::bytes::u16_at;
+use network::bytes::u32_at;
+use paths::energy::Energy;
+use paths::seconds::Seconds;
+ghost use mathlib.Core.Path.{_≡_};
+ghost use Prim.Native.Nat.{_+_, _*_, _≤_, _<_};
+ghost use lib.ListN.{length};
+ghost use Rattle.refusals.specs.Order.{firstFault};
+ghost use Rattle.forest.specs.LabelFile.{countAt, timeAt, energyAt, listEnd};
+ghost use Rattle.stored.specs.ListForm.{mostBytes, mostCount, entryNumber, listNumber};
+ghost use Rattle.forest.specs.Fits.{ParentsFit, DepthsFilled};
+ghost use Rattle.stored.specs.Scanned.{timeCeiling, timeBelow, energyFrom, Inside, ScannedSome, Scanned, Loaded};
+
+const MOST_COUNT: usize = 4095;
+
+// "each 1 to 67,042,305": the least time, the least energy and the most of either
+const LEAST_TIME: u32 = 1;
+
+const LEAST_ENERGY: u32 = 1;
+
+const MOST_FIGURE: u32 = 67042305;
+
+// The time of entry j of the list at a byte.
+pub fn time_at(labels: &[u8], at: usize, j: usize) -> Seconds
+    requires { ⌜ at + 6 + 8 * j ≤ length (now labels) ⌝ }
+    ensures { λ r. ⌜ r .0 ≡ timeAt (now (labels .entry)) at j ⌝ }
+{
+    Seconds(u32_at(labels, at + 2 + 8 * j))
+}
+
+// Its energy.
+pub fn energy_at(labels: &[u8], at: usize, j: usize) -> Energy
+    requires { ⌜ at + 10 + 8 * j ≤ length (now labels) ⌝ }
+    ensures { λ r. ⌜ r .0 ≡ energyAt (now (labels .entry)) at j ⌝ }
+{
+    Energy(u32_at(labels, at + 6 + 8 * j))
+}
+
+// A time in range, and below what stands before it.
+fn time_fits(ceiling: Seconds, time: Seconds) -> bool
+    ensures { λ r. ⌜ r ≡ timeBelow (ceiling .0) (time .0) ⌝ }
+{
+    if !Seconds(LEAST_TIME).at_most(time) {
+        return false;
+    }
+    if !time.at_most(Seconds(MOST_FIGURE)) {
+        return false;
+    }
+    time.below(ceiling)
+}
+
+// An energy in range, and above what stands before it.
+fn energy_fits(floor: Energy, energy: Energy) -> bool
+    ensures { λ r. ⌜ r ≡ energyFrom (floor .0) (energy .0) ⌝ }
+{
+    if !energy.at_most(Energy(MOST_FIGURE)) {
+        return false;
+    }
+    floor.at_most(energy)
+}
+
+// What entry j's time stays below.
+fn time_ceiling(labels: &[u8], at: usize, j: usize) -> Seconds
+    requires { ⌜ at + 6 + 8 * j ≤ length (now labels) ⌝ }
+    ensures { λ r. ⌜ r .0 ≡ timeCeiling (now (labels .entry)) at j ⌝ }
+{
+    if j == 0 {
+        return Seconds(MOST_FIGURE + 1);
+    }
+    time_at(labels, at, j - 1)
+}
+
+// The number of an entry that the file's end cuts off: 17 if its time stands whole and breaks a rule, else 11.
+fn cut_entry_number(labels: &[u8], at: usize, j: usize) -> u32
+    requires { ⌜ (at ≤ length (now labels)) × (length (now labels) ≤ mostBytes) ⌝ }
+    requires { ⌜ j ≤ mostCount ⌝ }
+    requires { ⌜ length (now labels) < at + 10 + 8 * j ⌝ }
+    ensures { λ r. ⌜ r ≡ entryNumber (now (labels .entry)) at j ⌝ }
+{
+    if labels.len() < at + 6 + 8 * j {
+        return 11;
+    }
+    if !time_fits(time_ceiling(labels, at, j), time_at(labels, at, j)) {
+        return 17;
+    }
+    11
+}
+
+// The number of the first entries of a list, all of which stand whole in the file. Each is read once.
+fn entries_number(labels: &[u8], at: usize, whole: usize) -> u32
+    requires { ⌜ at + 2 + 8 * whole ≤ length (now labels) ⌝ }
+    ensures { λ r. ⌜ r ≡ firstFault (entryNumber (now (labels .entry)) at) 0 whole ⌝ }
+{
+    let mut ceiling = Seconds(MOST_FIGURE + 1);
+    let mut floor = Energy(LEAST_ENERGY);
+    let mut j: usize = 0;
+    while j < whole {
+        let time = time_at(labels, at, j);
+        let energy = energy_at(labels, at, j);
+        if !time_fits(ceiling, time) {
+            return 17;
+        }
+        if !energy_fits(floor, energy) {
+            return 17;
+        }
+        ceiling = time;
+        floor = energy.plus(Energy(1));
+        j += 1;
+    }
+    0
+}
+
+// How many of `count` entries stand whole in so many bytes.
+fn entries_inside(bytes: usize, count: usize) -> usize
+    ensures { λ r. ⌜ Inside bytes count r ⌝ }
+{
+    let whole = bytes / 8;
+    if whole < count {
+        return whole;
+    }
+    count
+}
+
+// The number of the list at a byte: 11, 17 or 0.
+pub fn list_number(labels: &[u8], at: usize) -> u32
+    requires { ⌜ (at ≤ length (now labels)) × (length (now labels) ≤ mostBytes) ⌝ }
+    ensures { λ r. ⌜ r ≡ listNumber (now (labels .entry)) at ⌝ }
+{
+    if labels.len() < at + 2 {
+        return 11;
+    }
+    let count = u16_at(labels, at) as usize;
+    if count > MOST_COUNT {
+        return 17;
+    }
+    let whole = entries_inside(labels.len() - at - 2, count);
+    let number = entries_number(labels, at, whole);
+    if number != 0 {
+        return number;
+    }
+    if whole == count {
+        return 0;
+    }
+    cut_entry_number(labels, at, whole)
+}
+
+// What a pass over lists has come to: the number of the first fault or, at number 0, the byte behind the lists passed and the
+// entries counted.
+pub struct Scan {
+    pub number: u32,
+    pub at: usize,
+    pub total: usize,
+}
+
+// Passes over the lists of one junction, as many as its depth.
+fn scan_junction(labels: &[u8], at: usize, depth: u32, total: usize) -> Scan
+    requires { ⌜ (at ≤ length (now labels)) × (length (now labels) ≤ mostBytes) ⌝ }
+    requires { ⌜ total ≤ at ⌝ }
+    ensures { λ r. ⌜ ScannedSome (now (labels .entry)) at depth total (r .number) (r .at) (r .total) ⌝ }
+{
+    let mut place = Place { at: at };
+    let mut sum = total;
+    let mut k: u32 = 0;
+    while k < depth {
+        let here = place.at;
+        let number = list_number(labels, here);
+        if number != 0 {
+            return Scan {
+                number: number,
+                at: 0,
+                total: 0,
+            };
+        }
+        sum += place.count(labels) as usize;
+        place = place.next(labels);
+        k += 1;
+    }
+    let behind = place.at;
+    Scan {
+        number: 0,
+        at: behind,
+        total: sum,
+    }
+}
+
+// Passes over all lists once, and notes where each junction's start.
+pub fn scan_lists(labels: &[u8], depths: &[u32; 1024], starts: &mut [u32; 1024]) -> Scan
+    requires { ⌜ ParentsFit (now labels) ⌝ }
+    requires { ⌜ DepthsFilled (now labels) (now depths) ⌝ }
+    requires { ⌜ length (now labels) ≤ mostBytes ⌝ }
+    requires { ⌜ length (now starts) ≡ 1024 ⌝ }
+    ensures { λ r. ⌜ Scanned (now (labels .entry)) (now (starts .exit)) (r .number) (r .at) (r .total) ⌝ }
+{
+    let n = u16_at(labels, 6) as usize;
+    let mut at = 16 + 2 * n;
+    let mut total: usize = 0;
+    let mut v: usize = 0;
+    while v < n {
+        starts[v] = at as u32;
+        let depth = depths[v];
+        let scan = scan_junction(labels, at, depth, total);
+        if scan.number != 0 {
+            return scan;
+        }
+        at = scan.at;
+        total = scan.total;
+        v += 1;
+    }
+    Scan {
+        number: 0,
+        at: at,
+        total: total,
+    }
+}
+
+// Loads the list at a byte into the first places of two slices, and returns its count.
+pub fn load(labels: &[u8], at: usize, times: &mut [u32], energies: &mut [u32]) -> usize
+    requires { ⌜ listEnd (now labels) at ≤ length (now labels) ⌝ }
+    requires { ⌜ countAt (now labels) at ≤ length (now times) ⌝ }
+    requires { ⌜ countAt (now labels) at ≤ length (now energies) ⌝ }
+    ensures { λ r. ⌜ Loaded (now (labels .entry)) at (now (times .entry)) (now (energies .entry)) (now (times .exit)) (now (energies .exit)) r ⌝ }
+{
+    let count = u16_at(labels, at) as usize;
+    let mut j: usize = 0;
+    while j < count {
+        let time = time_at(labels, at, j);
+        let energy = energy_at(labels, at, j);
+        times[j] = time.0;
+        energies[j] = energy.0;
+        j += 1;
+    }
+    count
+}
