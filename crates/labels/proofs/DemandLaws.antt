@@ -23,7 +23,7 @@ use Rattle.network.specs.NetworkFile.{netNumber, networkOf, junctionsOf}
 use Rattle.network.proofs.Arcs.{network-finite}
 use Rattle.network.proofs.Accepted.{network-fits}
 use Rattle.files.specs.LabelForm.{formBeside}
-use Rattle.files.specs.Formed.{Beside}
+use Rattle.stored.specs.Formed.{Beside}
 use Rattle.files.proofs.FormLaws.{form-beside-passed}
 use Rattle.exact.specs.Right.{EveryListRight}
 use Rattle.exact.proofs.Exactness.{lists-ordered}
