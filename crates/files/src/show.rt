@@ -15,9 +15,9 @@ ghost use Rattle.files.specs.Shown.{Shown};
 ghost use Rattle.files.specs.Span.{AboveTested, SpanFound};
 
 // The bytes from one place up to another.
-struct Span {
-    start: usize,
-    end: usize,
+pub struct Span {
+    pub start: usize,
+    pub end: usize,
 }
 
 // Whether u is a proper ancestor of v.
@@ -62,8 +62,8 @@ fn list_span(labels: &[u8], depths: &[u32; 1024], starts: &[u32; 1024], v: usize
     }
 }
 
-// Where the list to show stands in any labels.
-fn span_of(labels: &[u8], v: u32, u: u32) -> Span
+// Where the list to show stands in any labels, for callers who cannot be handed a part.
+pub fn span_of(labels: &[u8], v: u32, u: u32) -> Span
     ensures { λ r. ⌜ SpanFound (now (labels .entry)) v u (r .start) (r .end) ⌝ }
 {
     let mut depths: [u32; 1024] = [0; 1024];
