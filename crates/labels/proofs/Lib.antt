@@ -7,6 +7,7 @@ pub mod BatchWays
 pub mod BatchUnique
 pub mod RouteWays
 pub mod RouteUnique
+pub mod ListWays
 pub mod ListUnique
 pub mod Unchanged
 pub mod DemandLaws

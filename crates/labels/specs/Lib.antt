@@ -6,4 +6,5 @@ pub mod Working
 pub mod Route
 pub mod RouteAnswers
 pub mod List
+pub mod ListAnswers
 pub mod Demands

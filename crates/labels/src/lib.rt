@@ -15,11 +15,14 @@ ghost use Rattle.labels.specs.Check.{Checked};
 ghost use Rattle.labels.specs.Batch.{BatchDone};
 ghost use Rattle.labels.specs.Route.{Routed};
 ghost use Rattle.labels.specs.RouteAnswers.{routeNumberOf, routeTimeOf, routeEnergyOf, routeCountOf};
+ghost use Rattle.labels.specs.List.{Listed};
+ghost use Rattle.labels.specs.ListAnswers.{listNumberOf, listCountOf};
 
 pub mod accept;
 pub mod lent;
 pub mod routing;
 pub mod triples;
+pub mod whole;
 
 // The answer of Route: the best pair and the count of its route's junctions, or why there is none.
 pub enum RouteAnswer {
@@ -28,6 +31,15 @@ pub enum RouteAnswer {
     OffMap,
     NotConnected,
     OverLimit,
+    NoRoom,
+}
+
+// The answer of Trade-off list: how many entries it has, or why there is none.
+pub enum ListAnswer {
+    Listed(u32),
+    NotAccepted(u32),
+    OffMap,
+    NotConnected,
     NoRoom,
 }
 
@@ -163,6 +175,61 @@ pub fn route(
         t,
         limit,
         junctions,
+        &mut marks,
+        &mut near_times,
+        &mut near_energies,
+        &mut far_times,
+        &mut far_energies,
+    )
+}
+
+// Trade-off list: every pair of s and t that no path's pair beats, energy rising, into the first places of two lent slices; how many,
+// or 21, 22, 24, or the check's number.
+pub fn list(
+    net: &[u8],
+    labels: &[u8],
+    s: u32,
+    t: u32,
+    times: &mut [u32],
+    energies: &mut [u32],
+) -> ListAnswer
+    ensures { λ r.
+        ⌜ Listed (now (net .entry)) (now (labels .entry)) s t (now (times .entry)) (now (energies .entry))
+        (listNumberOf r) (listCountOf r) (now (times .exit)) (now (energies .exit)) ⌝ }
+{
+    let mut depths: [u32; 1024] = [0; 1024];
+    let mut starts: [u32; 1024] = [0; 1024];
+    let mut heads: [u32; 1024] = [0; 1024];
+    let mut nexts: [u32; 8192] = [0; 8192];
+    let mut marks: [u8; 1024] = [0; 1024];
+    let mut near_times: [u32; 4096] = [0; 4096];
+    let mut near_energies: [u32; 4096] = [0; 4096];
+    let mut far_times: [u32; 4096] = [0; 4096];
+    let mut far_energies: [u32; 4096] = [0; 4096];
+    let number = accept::accept(
+        net,
+        labels,
+        &mut depths,
+        &mut starts,
+        &mut heads,
+        &mut nexts,
+        &mut near_times,
+        &mut near_energies,
+        &mut far_times,
+        &mut far_energies,
+    );
+    if number != 0 {
+        return ListAnswer::NotAccepted(number);
+    }
+    whole::write_list(
+        net,
+        labels,
+        &depths,
+        &starts,
+        s,
+        t,
+        times,
+        energies,
         &mut marks,
         &mut near_times,
         &mut near_energies,

@@ -1,0 +1,30 @@
+-- The check's number refuses; what follows the check is `labels::whole::write_list`.
+use borrow.Author.Needs.{needs}
+use Rattle.labels.proofs.Accepted.{ready-for-queries, lists-lent}
+use Rattle.labels.proofs.ListWays.{list-refused, check-passed}
+use Rattle.labels.proofs.list.Statement.{statement}
+use Rattle.labels.proofs.list.Tie as tie
+
+accept-requires : tie.Need-accept-requires
+accept-requires c κs = search needs
+
+returns : tie.Need-returns
+returns c = search (list-refused)
+
+write-list-requires : tie.Need-write-list-requires
+write-list-requires c κs =
+    let passed = c .before .before .before .before .before .before .before .before .before in
+    let accepting = passed .before .accept .ensures .0 in
+    (check-passed accepting (passed .if1 .left), (ready-for-queries accepting (passed .if1 .left), search (lists-lent, needs)))
+
+same-length : tie.Need-same-length
+same-length c = search needs
+
+same-length-2 : tie.Need-same-length-2
+same-length-2 c = search needs
+
+returns-2 : tie.Need-returns-2
+returns-2 c = search needs
+
+pub list-spec : {M : Type 1} → statement M
+list-spec = tie.close (tie.spec accept-requires returns write-list-requires same-length same-length-2 returns-2)

@@ -1,0 +1,131 @@
+// Trade-off list after the check: the entries are counted before the first is written, so that a refusal changes nothing lent.
+use crate::ListAnswer;
+use network::bytes::u16_at;
+use routes::list::list_count;
+use routes::list::list_fill;
+ghost use mathlib.Core.Path.{_≡_};
+ghost use Prim.Native.Nat.{_<_, min};
+ghost use Rattle.network.specs.NetworkFile.{junctionsOf};
+ghost use Rattle.query.specs.Prepared.{Prepared, Lent};
+ghost use Rattle.labels.specs.Check.{Checked};
+ghost use Rattle.labels.specs.List.{Listed};
+ghost use Rattle.labels.specs.ListAnswers.{listNumberOf, listCountOf};
+
+// "room is the shorter of the two".
+fn shorter(times: usize, energies: usize) -> usize
+    ensures { λ r. ⌜ r ≡ min times energies ⌝ }
+{
+    if times < energies {
+        return times;
+    }
+    energies
+}
+
+// The list of two junctions of the map.
+fn list_on_map(
+    net: &[u8],
+    labels: &[u8],
+    depths: &[u32; 1024],
+    starts: &[u32; 1024],
+    x: usize,
+    y: usize,
+    times: &mut [u32],
+    energies: &mut [u32],
+    marks: &mut [u8; 1024],
+    near_times: &mut [u32; 4096],
+    near_energies: &mut [u32; 4096],
+    far_times: &mut [u32; 4096],
+    far_energies: &mut [u32; 4096],
+) -> ListAnswer
+    requires { ⌜ Checked (now net) (now labels) 0 ⌝ }
+    requires { ⌜ Prepared (now net) (now labels) (now depths) (now starts) ⌝ }
+    requires { ⌜ (x < junctionsOf (now labels)) × (y < junctionsOf (now labels)) ⌝ }
+    requires { ⌜ Lent (now marks) (now «near_times») (now «near_energies») (now «far_times») (now «far_energies») ⌝ }
+    ensures { λ r.
+        ⌜ Listed (now (net .entry)) (now (labels .entry)) x y (now (times .entry)) (now (energies .entry))
+        (listNumberOf r) (listCountOf r) (now (times .exit)) (now (energies .exit)) ⌝ }
+{
+    let count = list_count(
+        net,
+        labels,
+        depths,
+        starts,
+        x,
+        y,
+        marks,
+        near_times,
+        near_energies,
+        far_times,
+        far_energies,
+    );
+    if count == 0 {
+        return ListAnswer::NotConnected;
+    }
+    if shorter(times.len(), energies.len()) < count as usize {
+        return ListAnswer::NoRoom;
+    }
+    list_fill(
+        net,
+        labels,
+        depths,
+        starts,
+        x,
+        y,
+        count,
+        times,
+        energies,
+        marks,
+        near_times,
+        near_energies,
+        far_times,
+        far_energies,
+    );
+    ListAnswer::Listed(count)
+}
+
+// The list of any two numbers: what is no junction is off the map.
+pub fn write_list(
+    net: &[u8],
+    labels: &[u8],
+    depths: &[u32; 1024],
+    starts: &[u32; 1024],
+    s: u32,
+    t: u32,
+    times: &mut [u32],
+    energies: &mut [u32],
+    marks: &mut [u8; 1024],
+    near_times: &mut [u32; 4096],
+    near_energies: &mut [u32; 4096],
+    far_times: &mut [u32; 4096],
+    far_energies: &mut [u32; 4096],
+) -> ListAnswer
+    requires { ⌜ Checked (now net) (now labels) 0 ⌝ }
+    requires { ⌜ Prepared (now net) (now labels) (now depths) (now starts) ⌝ }
+    requires { ⌜ Lent (now marks) (now «near_times») (now «near_energies») (now «far_times») (now «far_energies») ⌝ }
+    ensures { λ r.
+        ⌜ Listed (now (net .entry)) (now (labels .entry)) s t (now (times .entry)) (now (energies .entry))
+        (listNumberOf r) (listCountOf r) (now (times .exit)) (now (energies .exit)) ⌝ }
+{
+    let junctions = u16_at(net, 6);
+    if s >= junctions {
+        return ListAnswer::OffMap;
+    }
+    if t >= junctions {
+        return ListAnswer::OffMap;
+    }
+    list_on_map(
+        net,
+        labels,
+        depths,
+        starts,
+        s as usize,
+        t as usize,
+        times,
+        energies,
+        marks,
+        near_times,
+        near_energies,
+        far_times,
+        far_energies,
+    )
+}
