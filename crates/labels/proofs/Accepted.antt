@@ -23,6 +23,10 @@ zero-accepts (accepted y x w e) z = record { network-passes = y; form-passes = x
 pub accepted-zero : {net s : List ℕ} → Accepted net s → Checked net s 0
 accepted-zero a = accepted (a .network-passes) (a .form-passes) (a .every-list-right) mathlib.Core.Path.refl
 
+-- the check's number 0, as a number
+pub check-passed : {net s depths starts heads nexts : List ℕ} {number : ℕ} → Accepting net s number depths starts heads nexts → number ≡ 0 → Checked net s 0
+check-passed accepting none = rw none at (accepting .checked)
+
 pub ready-for-queries : {net s depths starts heads nexts : List ℕ} {number : ℕ} → Accepting net s number depths starts heads nexts → number ≡ 0 → Prepared net s depths starts
 ready-for-queries {net} {s} accepting none =
     let a = zero-accepts (accepting .checked) none in

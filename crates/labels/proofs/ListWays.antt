@@ -67,7 +67,3 @@ module _ {net s : List ℕ} {x y : ℕ} {times energies : List ℕ} where
           listed checked (on-net prepared x-on-map) (on-net prepared y-on-map) (written .right) (omega (arith, written .counted)) (omega (arith, written .counted)) refl (written .counted)
           (written .times-filled)
           (written .energies-filled)
-
--- what the check leaves where its number is 0
-pub check-passed : {net s depths starts heads nexts : List ℕ} {number : ℕ} → Accepting net s number depths starts heads nexts → number ≡ 0 → Checked net s 0
-check-passed accepting none = rw none at (accepting .checked)

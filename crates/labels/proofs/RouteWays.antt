@@ -61,7 +61,7 @@ module _ {net : List ℕ} {x y C : ℕ} {a : Answer} where
         RoutePut net x y (bestTime .0) (bestEnergy .0) before number time units count after →
         Routed net s x y C before number time units count after
     route-given e (working.no-room first short n t u c same) = no-room passed (found-zero e answers) first short n t u c same
-    route-given e (working.put first room n t u c now) = routed passed (rw (t, u) (found-zero e answers)) (rw (t, u) first) room n c now
+    route-given e (working.put {route} first room n t u c now) = routed {route = route} passed (rw (t, u) (found-zero e answers)) (rw (t, u) first) room n c now
 
 -- the pair of an answer is unbeaten
 pub found-skyline : {net : List ℕ} {x y C time units : ℕ} → FoundPair net x y C time units → Skyline (networkOf net) x y (pair time units)

@@ -1,7 +1,7 @@
 -- The check's number refuses; what follows the check is `labels::whole::write_list`.
 use borrow.Author.Needs.{needs}
-use Rattle.labels.proofs.Accepted.{ready-for-queries, lists-lent}
-use Rattle.labels.proofs.ListWays.{list-refused, check-passed}
+use Rattle.labels.proofs.Accepted.{check-passed, ready-for-queries, lists-lent}
+use Rattle.labels.proofs.ListWays.{list-refused}
 use Rattle.labels.proofs.list.Statement.{statement}
 use Rattle.labels.proofs.list.Tie as tie
 

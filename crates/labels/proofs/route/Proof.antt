@@ -1,0 +1,29 @@
+-- The check's number refuses; what follows the check is `labels::routing::answer_route`.
+use Rattle.labels.proofs.Accepted.{check-passed, ready-for-queries, lists-lent}
+use Rattle.labels.proofs.RouteWays.{route-refused}
+use borrow.Author.Needs.{needs}
+use Rattle.labels.proofs.route.Statement.{statement}
+use Rattle.labels.proofs.route.Tie as tie
+
+accept-requires : tie.Need-accept-requires
+accept-requires c κs = search needs
+
+returns : tie.Need-returns
+returns c = search (route-refused)
+
+answer-route-requires : tie.Need-answer-route-requires
+answer-route-requires c κs =
+    let passed = c .before .before .before .before .before .before .before .before .before .before in
+    let accepting = passed .before .accept .ensures .0 in
+    let none = passed .if1 .left in
+    (check-passed accepting none, (ready-for-queries accepting none, (accepting .tables none .grouped, search (lists-lent, needs))))
+
+same-length : tie.Need-same-length
+same-length c = search needs
+
+returns-2 : tie.Need-returns-2
+returns-2 c = search needs
+
+pub route-spec : {M : Type 1} → statement M
+route-spec =
+    tie.close (tie.spec accept-requires returns answer-route-requires same-length returns-2)
