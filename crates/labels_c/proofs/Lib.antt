@@ -1,0 +1,2 @@
+-- Why the C functions give what the calls state.
+pub mod Passed

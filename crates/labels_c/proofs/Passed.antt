@@ -1,0 +1,55 @@
+-- The statements of the calls, passed on from an enum's number and values to the fields of a struct.
+use mathlib.Core.Path.{_≡_, refl}
+use mathlib.Core.List.{List}
+use Prim.Native.Nat.{ℕ, _-_, _≤_}
+use native.Mathlib.Omega.{arith}
+use lib.ListN.{take, drop}
+use Rattle.lists.specs.Answers.{Join, LimitedJoin}
+use Rattle.forest.specs.LabelFile.{listEnd}
+use Rattle.stored.specs.Stored.{listPlace}
+use Rattle.stored.proofs.Places.{list-takes}
+use Rattle.files.specs.Shown.{Shown}
+use Rattle.files.specs.Span.{Spans, none, list, SpanFound}
+use Rattle.files.proofs.ShowLaws.{span-shown}
+use Rattle.labels.specs.Route.{Routed}
+use Rattle.labels.specs.List.{Listed}
+
+pub route-passed :
+    {net s before after : List ℕ} {x y C number time units count number′ time′ units′ count′ : ℕ} →
+    Routed net s x y C before number time units count after →
+    (number′ ≡ number) × (time′ ≡ time) × (units′ ≡ units) × (count′ ≡ count) →
+    Routed net s x y C before number′ time′ units′ count′ after
+route-passed outcome same = rw (same .0, same .1, same .2, same .3) outcome
+
+pub list-passed :
+    {net s timesBefore energiesBefore timesAfter energiesAfter : List ℕ} {x y number count number′ count′ : ℕ} →
+    Listed net s x y timesBefore energiesBefore number count timesAfter energiesAfter →
+    (number′ ≡ number) × (count′ ≡ count) →
+    Listed net s x y timesBefore energiesBefore number′ count′ timesAfter energiesAfter
+list-passed outcome same = rw (same .0, same .1) outcome
+
+pub join-passed :
+    {ts es us fs timesBefore energiesBefore timesAfter energiesAfter : List ℕ} {number count number′ count′ : ℕ} →
+    Join ts es us fs timesBefore energiesBefore number count timesAfter energiesAfter →
+    (number′ ≡ number) × (count′ ≡ count) →
+    Join ts es us fs timesBefore energiesBefore number′ count′ timesAfter energiesAfter
+join-passed outcome same = rw (same .0, same .1) outcome
+
+pub sum-passed :
+    {ts es us fs : List ℕ} {C number time units number′ time′ units′ : ℕ} →
+    LimitedJoin ts es us fs C number time units →
+    (number′ ≡ number) × (time′ ≡ time) × (units′ ≡ units) →
+    LimitedJoin ts es us fs C number′ time′ units′
+sum-passed outcome same = rw (same .0, same .1, same .2) outcome
+
+-- a part as a place and a length: where some byte is shown the place is the list's, else it is 0
+module _ {s : List ℕ} {v u start end : ℕ} (found : SpanFound s v u start end) where
+  pub part-shown : Shown s v u (take (end - start) (drop start s))
+  part-shown = span-shown found refl
+
+  pub part-place : (1 ≤ end - start → start ≡ listPlace s v u) × (end - start ≡ 0 → start ≡ 0)
+  part-place = pick (found .spans)
+    where
+      pick : Spans s v u start end → (1 ≤ end - start → start ≡ listPlace s v u) × (end - start ≡ 0 → start ≡ 0)
+      pick (none h from to) = ((λ some. absurd (omega arith)), λ z. from)
+      pick (list h from to) = ((λ some. from), λ z. absurd (omega (arith, list-takes s (listPlace s v u))))
