@@ -1,0 +1,157 @@
+/*
+ * Bushelvane: checks label files of a route planner against their road network, and answers limited queries on the right ones.
+ *
+ * Link with liblabels_c.a, which `rt staticlib labels_c` leaves in target/staticlib (x86-64 Linux). examples/c has a whole program.
+ *
+ * Networks and labels are the bytes of the two files, read whole by the caller. Times are seconds, energies and limits units of
+ * 10 Wh. Junctions are 0 to n - 1.
+ *
+ * Slices
+ *   A slice is two arguments: the address of its first element, and its length in elements.
+ *   The address is never null and is aligned for its elements, for length 0 too: any object's address will do there.
+ *   All elements can be read while the call runs, and those behind a pointer without `const` can be written. A slice that is written
+ *   overlaps no other slice of the same call; slices that are only read may overlap. Nobody else writes to any of them meanwhile.
+ *   The library keeps no address after a call.
+ *
+ * Answers
+ *   Each call but bushelvane_show gives a number: 0 for success, or why it refuses. A refusal carries zeros beside its number and
+ *   leaves every lent place as it was. Success fills the first places of what it writes, and later places stay as they were.
+ *   Where several numbers apply, the first in the order of this table is given; what it leaves open is said below it.
+ *
+ *   number   given when
+ *   31       batch: length no multiple of 3, or above 3,072
+ *   32       batch: answers not as long as the queries
+ *   1        network: under 16 bytes, or not 16 + 8m
+ *   2, 3, 4  network: mark or byte 5; version; n or m out of range
+ *   5, 6     network: ends not lower < higher < n, or a record not after the one before; time or energy 0
+ *   11       labels: too short, too long or with bytes left
+ *   12, 13   labels: mark or byte 5; version
+ *   14       labels: n or identity differs from the network
+ *   15       a parent not below n and not 65,535, or a parent chain that returns
+ *   16       a road whose ends are not ancestor and descendant
+ *   17       a count, an entry or E against the rules
+ *   18       some list is not the trade-off list of its pair
+ *   41       join: a list's two slices differ in length (of either list, before 42 of either)
+ *   42       join: a list over 4,095 entries, a number above 1,073,741,823, or the order broken
+ *   21       s or t is n or more
+ *   22       no path at all
+ *   23       paths exist, none within the limit; limited join: no sum within the limit
+ *   24       the answer needs more places than were lent
+ *
+ *   1 for a length other than 16 + 8m comes after 4. Records go in file order, 5 before 6 in each. 11 for under 16 bytes or over
+ *   4,194,304 comes first, 11 for cut off parents after 14. Within the lists numbers go in byte order: one cut off gives 11, one that
+ *   breaks a rule 17. After the last list come 11 for bytes left, 17 for a wrong E, then 18.
+ *
+ * Remarks
+ *   No call takes memory from the heap, keeps state between calls or fails to return: calls from several threads do not meet.
+ *   A call takes less than 256 KB of the caller's stack, which a thread made with a small stack must have.
+ *   bushelvane_batch, bushelvane_route and bushelvane_list each run the whole check first: many queries belong in one batch.
+ */
+#ifndef BUSHELVANE_H
+#define BUSHELVANE_H
+
+#include <stddef.h>
+#include <stdint.h>
+
+#ifdef __cplusplus
+extern "C" {
+#endif
+
+/* A number and, if it is 0, a pair of time and energy. */
+typedef struct {
+    uint32_t number;
+    uint32_t time;
+    uint32_t energy;
+} bushelvane_best;
+
+/* A number and, if it is 0, the pair of a route and how many junctions it has. */
+typedef struct {
+    uint32_t number;
+    uint32_t time;
+    uint32_t energy;
+    uint32_t count;
+} bushelvane_route_answer;
+
+/* A number and, if it is 0, how many entries were written. */
+typedef struct {
+    uint32_t number;
+    uint32_t count;
+} bushelvane_count;
+
+/* Bytes at .. at + length - 1 of the labels; the empty part has length 0. */
+typedef struct {
+    size_t at;
+    size_t length;
+} bushelvane_part;
+
+/* Whether the labels are right for the network: 0, 1 .. 6 or 11 .. 18. */
+uint32_t bushelvane_check(
+    const uint8_t *network, size_t network_length,
+    const uint8_t *labels, size_t labels_length);
+
+/*
+ * Answers triples s, t, limit by triples number, time, energy: `answers` is as long as `queries`. A triple's number is 0 beside the
+ * best pair (least time, then least energy, with energy at most the limit), or 21, 22, 23 beside two zeros, which refuses that triple
+ * alone. The call's own number is 0, 31, 32 or the check's.
+ */
+uint32_t bushelvane_batch(
+    const uint8_t *network, size_t network_length,
+    const uint8_t *labels, size_t labels_length,
+    const uint32_t *queries, size_t queries_length,
+    uint32_t *answers, size_t answers_length);
+
+/*
+ * The best pair from s to t within the limit, and its route: of all paths with that pair the one whose junction numbers come first
+ * when compared place by place from s. Refuses by the check's numbers, 21, 22, 23 or 24. No route has more than 1,024 junctions.
+ */
+bushelvane_route_answer bushelvane_route(
+    const uint8_t *network, size_t network_length,
+    const uint8_t *labels, size_t labels_length,
+    uint32_t s, uint32_t t, uint32_t limit,
+    uint32_t *junctions, size_t junctions_length);
+
+/*
+ * The whole trade-off list of s and t, energy rising and time falling. The room is the shorter of the two lent slices. Refuses by
+ * the check's numbers, 21, 22 or 24. The list may be longer than any stored one.
+ */
+bushelvane_count bushelvane_list(
+    const uint8_t *network, size_t network_length,
+    const uint8_t *labels, size_t labels_length,
+    uint32_t s, uint32_t t,
+    uint32_t *times, size_t times_length,
+    uint32_t *energies, size_t energies_length);
+
+/*
+ * The join of lists a and b: their unbeaten sums, each once, energy rising and time falling. Entries may be 0; a list joined with an
+ * empty one gives an empty one. The room is the shorter of the two lent slices. Refuses by 41, 42 or 24.
+ */
+bushelvane_count bushelvane_join(
+    const uint32_t *times_a, size_t times_a_length,
+    const uint32_t *energies_a, size_t energies_a_length,
+    const uint32_t *times_b, size_t times_b_length,
+    const uint32_t *energies_b, size_t energies_b_length,
+    uint32_t *times, size_t times_length,
+    uint32_t *energies, size_t energies_length);
+
+/* The best sum of lists a and b within the limit. Refuses by 41, 42 or 23. */
+bushelvane_best bushelvane_limited_join(
+    const uint32_t *times_a, size_t times_a_length,
+    const uint32_t *energies_a, size_t energies_a_length,
+    const uint32_t *times_b, size_t times_b_length,
+    const uint32_t *energies_b, size_t energies_b_length,
+    uint32_t limit);
+
+/*
+ * Where the list that v stores for its proper ancestor u lies in the labels, from its count through its last entry; a stored empty
+ * list is its two count bytes. The part is empty if the labels alone would be refused by 11 .. 15 or 17 (n then comes from them), if
+ * v or u is n or more, or if u is no proper ancestor of v. Neither 16 nor 18 is asked for.
+ */
+bushelvane_part bushelvane_show(
+    const uint8_t *labels, size_t labels_length,
+    uint32_t v, uint32_t u);
+
+#ifdef __cplusplus
+}
+#endif
+
+#endif
