@@ -1,28 +1,12 @@
-//! The C interface as the library exports it; `crate` documents what the calls do.
+//! The C functions as the library exports them and `include/bushelvane.h` declares them; the crate documents what they do.
 //!
-//! Every slice is passed as its first element and its length in elements.
+//! A slice is passed as its first element and its length in elements. What a caller owes is the same for all of them:
+//! each pointer is aligned and not null, so many elements can be read behind it, and written if it is `*mut`; a slice that
+//! is written overlaps no other; and all of this lasts until the call returns. No pointer is kept after it.
 
-#[repr(C)]
-pub struct Best {
-    pub number: u32,
-    pub time: u32,
-    pub energy: u32,
-}
+use crate::{Best, Count, RouteAnswer};
 
-#[repr(C)]
-pub struct RouteAnswer {
-    pub number: u32,
-    pub time: u32,
-    pub energy: u32,
-    pub count: u32,
-}
-
-#[repr(C)]
-pub struct Count {
-    pub number: u32,
-    pub count: u32,
-}
-
+/// Bytes of the labels; the empty part has length 0.
 #[repr(C)]
 pub struct Part {
     pub at: usize,

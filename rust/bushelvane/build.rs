@@ -9,12 +9,16 @@ fn main() {
         Some(folder) => PathBuf::from(folder),
         None => here.join("../../target/staticlib"),
     };
+    let archive = folder.join("liblabels_c.a");
     println!("cargo::rerun-if-env-changed=BUSHELVANE_LIB_DIR");
-    // Without this a rebuilt library would be compared in its old form.
-    println!(
-        "cargo::rerun-if-changed={}",
-        folder.join("liblabels_c.a").display()
-    );
+    // Without this a rebuilt library would be used in its old form.
+    println!("cargo::rerun-if-changed={}", archive.display());
+    if !archive.exists() {
+        println!(
+            "cargo::error={} is missing: `rt staticlib labels_c` makes it",
+            archive.display()
+        );
+    }
     println!("cargo::rustc-link-search=native={}", folder.display());
     println!("cargo::rustc-link-lib=static=labels_c");
 }
