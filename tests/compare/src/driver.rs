@@ -90,7 +90,9 @@ fn report(
         "difference in set {index} of seed {seed} ({}): {what}\n",
         set.note
     );
-    text += &format!("replay: compare --seed {seed} --only {index}\n");
+    text += &format!(
+        "replay: cd tests/compare && cargo run --release --features library -- --seed {seed} --only {index}\n"
+    );
     let record = write_record(&planned.call, wanted);
     if files.network.len() + files.labels.len() + record.len() <= MOST_PRINTED {
         text += &format!("{}\n{record}", write_files(files));
