@@ -3,12 +3,15 @@
 //! - [`inputs`]: files and lists, the same in every run
 //! - [`plain`]: the algorithms in plain, safe Rust
 //! - [`proved`]: the proved functions, over their C interface
+//! - [`queries`]: batch, route and list after the check; [`growth`]: how times grow with the files
 //! - [`timing`], [`clock`]: how a pair is timed, and its line of the table
 
 mod clock;
+mod growth;
 mod inputs;
 mod plain;
 mod proved;
+mod queries;
 mod timing;
 
 use std::fs;
@@ -33,6 +36,9 @@ fn main() {
     for files in inputs::right::all() {
         check(&files);
     }
+    for files in inputs::right::asked() {
+        queries::rows(&files);
+    }
     let mut random = Random::new(0, 1);
     for size in [10, 100, 1_000, 4_095] {
         cover(size, &lists::covered(&mut random, size, ENTRIES / size));
@@ -47,6 +53,10 @@ fn main() {
     }
     let few = [lists::few_unbeaten(&mut random, 4_095)];
     join("1 pair of 4095 entries, few unbeaten sums", &few);
+    println!("\n{}", growth::HEAD);
+    for files in inputs::right::growing() {
+        growth::row(&files);
+    }
 }
 
 /// What the figures depend on besides the code.

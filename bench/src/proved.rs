@@ -31,6 +31,14 @@ pub struct Count {
     pub count: u32,
 }
 
+/// A number for each possible junction.
+pub type Junctions = [u32; 1_024];
+/// A number for both ends of each possible road.
+type RoadEnds = [u32; 8_192];
+/// A number for each entry that a stored list can have.
+type Entries = [u32; 4_096];
+type Marks = [u8; 1_024];
+
 unsafe extern "C" {
     fn measured_check(
         net: *const u8,
@@ -86,6 +94,94 @@ unsafe extern "C" {
         more_energies_length: usize,
         limit: u32,
     ) -> Best;
+
+    fn measured_accept(
+        net: *const u8,
+        net_length: usize,
+        labels: *const u8,
+        labels_length: usize,
+        depths: *mut Junctions,
+        starts: *mut Junctions,
+        heads: *mut Junctions,
+        nexts: *mut RoadEnds,
+        near_times: *mut Entries,
+        near_energies: *mut Entries,
+        far_times: *mut Entries,
+        far_energies: *mut Entries,
+    ) -> u32;
+
+    fn measured_answers(
+        net: *const u8,
+        net_length: usize,
+        labels: *const u8,
+        labels_length: usize,
+        depths: *const Junctions,
+        starts: *const Junctions,
+        queries: *const u32,
+        queries_length: usize,
+        count: usize,
+        answers: *mut u32,
+        answers_length: usize,
+        marks: *mut Marks,
+        near_times: *mut Entries,
+        near_energies: *mut Entries,
+        far_times: *mut Entries,
+        far_energies: *mut Entries,
+    );
+
+    fn measured_route(
+        net: *const u8,
+        net_length: usize,
+        labels: *const u8,
+        labels_length: usize,
+        depths: *const Junctions,
+        starts: *const Junctions,
+        heads: *const Junctions,
+        nexts: *const RoadEnds,
+        s: usize,
+        t: usize,
+        time: u32,
+        units: u32,
+        junctions: *mut Junctions,
+        marks: *mut Marks,
+    ) -> usize;
+
+    fn measured_list_count(
+        net: *const u8,
+        net_length: usize,
+        labels: *const u8,
+        labels_length: usize,
+        depths: *const Junctions,
+        starts: *const Junctions,
+        s: usize,
+        t: usize,
+        marks: *mut Marks,
+        near_times: *mut Entries,
+        near_energies: *mut Entries,
+        far_times: *mut Entries,
+        far_energies: *mut Entries,
+    ) -> u32;
+
+    fn measured_list_fill(
+        net: *const u8,
+        net_length: usize,
+        labels: *const u8,
+        labels_length: usize,
+        depths: *const Junctions,
+        starts: *const Junctions,
+        s: usize,
+        t: usize,
+        count: u32,
+        times: *mut u32,
+        times_length: usize,
+        energies: *mut u32,
+        energies_length: usize,
+        marks: *mut Marks,
+        near_times: *mut Entries,
+        near_energies: *mut Entries,
+        far_times: *mut Entries,
+        far_energies: *mut Entries,
+    );
 }
 
 /// The whole check.
@@ -160,5 +256,167 @@ pub fn limited_join(first: &List, second: &List, limit: u32) -> Best {
             second.energies().len(),
             limit,
         )
+    }
+}
+
+/// A set that the check has accepted, with the tables it filled and scratch for queries.
+pub struct Accepted<'a> {
+    net: &'a [u8],
+    labels: &'a [u8],
+    depths: Box<Junctions>,
+    starts: Box<Junctions>,
+    heads: Box<Junctions>,
+    nexts: Box<RoadEnds>,
+    marks: Box<Marks>,
+    near_times: Box<Entries>,
+    near_energies: Box<Entries>,
+    far_times: Box<Entries>,
+    far_energies: Box<Entries>,
+}
+
+impl<'a> Accepted<'a> {
+    /// The set if the check gives 0.
+    pub fn new(net: &'a [u8], labels: &'a [u8]) -> Option<Accepted<'a>> {
+        let entries = || Box::new([0; 4_096]);
+        let junctions = || Box::new([0; 1_024]);
+        let mut set = Accepted {
+            net,
+            labels,
+            depths: junctions(),
+            starts: junctions(),
+            heads: junctions(),
+            nexts: Box::new([0; 8_192]),
+            marks: Box::new([0; 1_024]),
+            near_times: entries(),
+            near_energies: entries(),
+            far_times: entries(),
+            far_energies: entries(),
+        };
+        // SAFETY: slices and arrays of their own, of the sizes that the function asks for.
+        let number = unsafe {
+            measured_accept(
+                net.as_ptr(),
+                net.len(),
+                labels.as_ptr(),
+                labels.len(),
+                &mut *set.depths,
+                &mut *set.starts,
+                &mut *set.heads,
+                &mut *set.nexts,
+                &mut *set.near_times,
+                &mut *set.near_energies,
+                &mut *set.far_times,
+                &mut *set.far_energies,
+            )
+        };
+        (number == 0).then_some(set)
+    }
+
+    fn is_junction(&self, junction: usize) -> bool {
+        junction < usize::from(u16::from_le_bytes([self.net[6], self.net[7]]))
+    }
+
+    /// A batch after the check.
+    pub fn answer_all(&mut self, queries: &[u32], answers: &mut [u32]) {
+        assert!(queries.len() == answers.len() && queries.len().is_multiple_of(3));
+        // SAFETY: the tables are those of an accepted set, and the lengths were asked for above.
+        unsafe {
+            measured_answers(
+                self.net.as_ptr(),
+                self.net.len(),
+                self.labels.as_ptr(),
+                self.labels.len(),
+                &*self.depths,
+                &*self.starts,
+                queries.as_ptr(),
+                queries.len(),
+                queries.len() / 3,
+                answers.as_mut_ptr(),
+                answers.len(),
+                &mut *self.marks,
+                &mut *self.near_times,
+                &mut *self.near_energies,
+                &mut *self.far_times,
+                &mut *self.far_energies,
+            );
+        }
+    }
+
+    /// The first route of a pair, which the caller has from `answer_all` for the same junctions.
+    pub fn route(
+        &mut self,
+        s: usize,
+        t: usize,
+        (time, units): (u32, u32),
+        junctions: &mut Junctions,
+    ) -> usize {
+        assert!(self.is_junction(s) && self.is_junction(t));
+        // SAFETY: the tables are those of an accepted set; that the pair is unbeaten is the caller's word.
+        unsafe {
+            measured_route(
+                self.net.as_ptr(),
+                self.net.len(),
+                self.labels.as_ptr(),
+                self.labels.len(),
+                &*self.depths,
+                &*self.starts,
+                &*self.heads,
+                &*self.nexts,
+                s,
+                t,
+                time,
+                units,
+                junctions,
+                &mut *self.marks,
+            )
+        }
+    }
+
+    /// The whole trade-off list: counted, then filled.
+    pub fn list(&mut self, s: usize, t: usize, times: &mut [u32], energies: &mut [u32]) -> usize {
+        assert!(self.is_junction(s) && self.is_junction(t));
+        // SAFETY: the tables are those of an accepted set.
+        let count = unsafe {
+            measured_list_count(
+                self.net.as_ptr(),
+                self.net.len(),
+                self.labels.as_ptr(),
+                self.labels.len(),
+                &*self.depths,
+                &*self.starts,
+                s,
+                t,
+                &mut *self.marks,
+                &mut *self.near_times,
+                &mut *self.near_energies,
+                &mut *self.far_times,
+                &mut *self.far_energies,
+            )
+        };
+        assert!(count as usize <= times.len().min(energies.len()));
+        // SAFETY: as above, and the count is the one just given and fits.
+        unsafe {
+            measured_list_fill(
+                self.net.as_ptr(),
+                self.net.len(),
+                self.labels.as_ptr(),
+                self.labels.len(),
+                &*self.depths,
+                &*self.starts,
+                s,
+                t,
+                count,
+                times.as_mut_ptr(),
+                times.len(),
+                energies.as_mut_ptr(),
+                energies.len(),
+                &mut *self.marks,
+                &mut *self.near_times,
+                &mut *self.near_energies,
+                &mut *self.far_times,
+                &mut *self.far_energies,
+            );
+        }
+        count as usize
     }
 }

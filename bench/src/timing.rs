@@ -45,6 +45,18 @@ pub fn pair<A, B>(mut plain: impl FnMut() -> A, mut proved: impl FnMut() -> B) -
     }
 }
 
+/// One side alone.
+pub fn single<A>(mut run: impl FnMut() -> A) -> Duration {
+    let once = timed(1, &mut run).max(Duration::from_nanos(1));
+    let repeats = 1 + LEAST_RUN.div_duration_f64(once) as u32;
+    let mut times = Vec::new();
+    let start = thread_time();
+    while times.len() < LEAST_ROUNDS || thread_time() - start < LEAST_TIME / 2 {
+        times.push(timed(repeats, &mut run));
+    }
+    low(times)
+}
+
 /// The lower quartile, and not the least: on a virtual machine single times of this clock were seen far
 /// too low.
 fn low(mut times: Vec<Duration>) -> Duration {

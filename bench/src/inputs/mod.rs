@@ -2,4 +2,5 @@
 
 pub mod files;
 pub mod lists;
+pub mod queries;
 pub mod right;

@@ -27,6 +27,33 @@ pub fn all() -> Vec<Files> {
     ]
 }
 
+/// The same, and one whose junctions mostly meet in the middle, where lists are short and their joins long.
+pub fn asked() -> Vec<Files> {
+    let inward = (0..31).map(|turn| {
+        if turn % 2 == 0 {
+            turn / 2
+        } else {
+            30 - turn / 2
+        }
+    });
+    let mut asked = all();
+    asked.push(files(
+        "long answers, n = 31",
+        diamonds(10),
+        inward.collect(),
+    ));
+    asked
+}
+
+/// Grids of one kind of roads and chains, each kind from small to large.
+pub fn growing() -> Vec<Files> {
+    let mut random = Random::new(0, 4);
+    let grids =
+        [8, 11, 16, 23, 32].map(|side| files("grid", grid(&mut random, side, 5), order(side)));
+    let chains = [225, 450, 900].map(|n| files("chain", chain(&mut random, n), (0..n).collect()));
+    grids.into_iter().chain(chains).collect()
+}
+
 fn files(note: &'static str, network: Network, order: Vec<usize>) -> Files {
     let parents = by_elimination(&network, order);
     let net = network_bytes(&network);

@@ -28,14 +28,14 @@ fn u32_at(bytes: &[u8], at: usize) -> u32 {
 }
 
 /// Times and energies of one list; only the first `count` places count.
-struct Loaded {
+pub struct Loaded {
     times: Vec<u32>,
     energies: Vec<u32>,
     count: usize,
 }
 
 impl Loaded {
-    fn new() -> Loaded {
+    pub fn new() -> Loaded {
         Loaded {
             times: vec![0; 4_096],
             energies: vec![0; 4_096],
@@ -43,12 +43,17 @@ impl Loaded {
         }
     }
 
-    fn load(&mut self, labels: &[u8], at: usize) {
+    pub fn load(&mut self, labels: &[u8], at: usize) {
         self.count = u16_at(labels, at);
         for entry in 0..self.count {
             self.times[entry] = u32_at(labels, at + 2 + 8 * entry);
             self.energies[entry] = u32_at(labels, at + 6 + 8 * entry);
         }
+    }
+
+    /// Its times and its energies.
+    pub fn list(&self) -> (&[u32], &[u32]) {
+        (&self.times[..self.count], &self.energies[..self.count])
     }
 
     fn arrived(&mut self) {

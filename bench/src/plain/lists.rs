@@ -109,10 +109,26 @@ fn unbeaten(first: &List, second: &List) -> impl Iterator<Item = (u32, u32)> {
 
 /// Up the first list and down the second: the last entry that fits beside another is the quickest.
 fn best_sum(first: &List, second: &List, limit: u32) -> Option<(u32, u32)> {
-    let (more_times, more_energies) = (second.times(), second.energies());
+    best_sum_slices(
+        first.times(),
+        first.energies(),
+        second.times(),
+        second.energies(),
+        limit,
+    )
+}
+
+#[inline]
+pub fn best_sum_slices(
+    times: &[u32],
+    energies: &[u32],
+    more_times: &[u32],
+    more_energies: &[u32],
+    limit: u32,
+) -> Option<(u32, u32)> {
     let mut fitting = more_energies.len();
     let mut best: Option<(u32, u32)> = None;
-    for (&time, &energy) in first.times().iter().zip(first.energies()) {
+    for (&time, &energy) in times.iter().zip(energies) {
         while fitting > 0 && energy + more_energies[fitting - 1] > limit {
             fitting -= 1;
         }

@@ -5,3 +5,5 @@
 pub mod exact;
 pub mod form;
 pub mod lists;
+pub mod queries;
+pub mod search;

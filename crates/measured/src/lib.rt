@@ -1,5 +1,7 @@
 // What bench/ measures, exported to Rust. Each function hands its arguments on, so its time is that of the function measured.
 use files::form::form_beside;
+use labels::accept::accept;
+use labels::triples::answer_all;
 use lists::JoinAnswer;
 use lists::SumAnswer;
 use lists::cover::cover;
@@ -8,13 +10,25 @@ use lists::sums::limited_join;
 use network::network::net_number;
 use paths::energy::Energy;
 use paths::seconds::Seconds;
-ghost use Prim.Native.Nat.{_≤_};
+use routes::list::list_count;
+use routes::list::list_fill;
+use routes::route::route;
+ghost use mathlib.Core.Path.{_≡_};
+ghost use mathlib.Core.List.{List};
+ghost use Prim.Native.Nat.{_≤_, _<_};
 ghost use lib.ListN.{length};
 ghost use Rattle.paths.specs.Weights.{pair};
-ghost use Rattle.lists.specs.Entries.{IsList};
+ghost use Rattle.paths.specs.TradeOff.{Skyline, IsTradeOff};
+ghost use Rattle.network.specs.NetworkFile.{junctionsOf, networkOf};
+ghost use Rattle.network.specs.Roads.{Grouped};
+ghost use Rattle.lists.specs.Entries.{IsList, Weight};
 ghost use Rattle.lists.specs.Cover.{Covering};
 ghost use Rattle.lists.specs.Answers.{Join, LimitedJoin};
+ghost use Rattle.exact.specs.Agreeing.{ListRoom};
+ghost use Rattle.query.specs.Prepared.{Prepared, Lent};
+ghost use Rattle.routes.specs.Written.{RouteFound, ListWritten};
 ghost use Rattle.labels.specs.Check.{Checked};
+ghost use Rattle.labels.specs.Working.{Accepting, Triples, AnsweredTo};
 ghost use Rattle.measured.specs.FormNumber.{FormNumber};
 
 // What Join answers, for a caller in Rust: the number it refuses by and no count, or 0 and the places filled.
@@ -176,4 +190,191 @@ pub extern "C" fn measured_limited_join(
             energy: 0,
         },
     }
+}
+
+// The check with its tables left filled. The functions below stand on them: bench/ hands each the tables that this one filled for
+// the same files with number 0, and scratch of the sizes that their types say.
+#[no_mangle]
+pub extern "C" fn measured_accept(
+    net: &[u8],
+    labels: &[u8],
+    depths: &mut [u32; 1024],
+    starts: &mut [u32; 1024],
+    heads: &mut [u32; 1024],
+    nexts: &mut [u32; 8192],
+    near_times: &mut [u32; 4096],
+    near_energies: &mut [u32; 4096],
+    far_times: &mut [u32; 4096],
+    far_energies: &mut [u32; 4096],
+) -> u32
+    requires { ⌜ (length (now depths) ≡ 1024) × (length (now starts) ≡ 1024) × (length (now heads) ≡ 1024) × (length (now nexts) ≡ 8192) ⌝ }
+    requires { ⌜ ListRoom (now «near_times») (now «near_energies») × ListRoom (now «far_times») (now «far_energies») ⌝ }
+    ensures { λ r. ⌜ Accepting (now (net .entry)) (now (labels .entry)) r (now (depths .exit)) (now (starts .exit)) (now (heads .exit)) (now (nexts .exit)) ⌝ }
+{
+    accept(
+        net,
+        labels,
+        depths,
+        starts,
+        heads,
+        nexts,
+        near_times,
+        near_energies,
+        far_times,
+        far_energies,
+    )
+}
+
+// A batch after the check. The answers are as many places as the queries, three to each of `count` triples.
+#[no_mangle]
+pub extern "C" fn measured_answers(
+    net: &[u8],
+    labels: &[u8],
+    depths: &[u32; 1024],
+    starts: &[u32; 1024],
+    queries: &[u32],
+    count: usize,
+    answers: &mut [u32],
+    marks: &mut [u8; 1024],
+    near_times: &mut [u32; 4096],
+    near_energies: &mut [u32; 4096],
+    far_times: &mut [u32; 4096],
+    far_energies: &mut [u32; 4096],
+)
+    requires { ⌜ Prepared (now net) (now labels) (now depths) (now starts) ⌝ }
+    requires { ⌜ Triples (now queries) (now answers) count ⌝ }
+    requires { ⌜ Lent (now marks) (now «near_times») (now «near_energies») (now «far_times») (now «far_energies») ⌝ }
+    ensures { λ _. ⌜ AnsweredTo (now (net .entry)) (now (queries .entry)) (now (answers .entry)) (now (answers .exit)) count ⌝ }
+{
+    answer_all(
+        net,
+        labels,
+        depths,
+        starts,
+        queries,
+        count,
+        answers,
+        marks,
+        near_times,
+        near_energies,
+        far_times,
+        far_energies,
+    );
+}
+
+// The first route of an unbeaten pair, which bench/ takes from a batch.
+#[no_mangle]
+pub extern "C" fn measured_route(
+    net: &[u8],
+    labels: &[u8],
+    depths: &[u32; 1024],
+    starts: &[u32; 1024],
+    heads: &[u32; 1024],
+    nexts: &[u32; 8192],
+    s: usize,
+    t: usize,
+    time: u32,
+    units: u32,
+    junctions: &mut [u32; 1024],
+    marks: &mut [u8; 1024],
+) -> usize
+    requires { ⌜ Prepared (now net) (now labels) (now depths) (now starts) ⌝ }
+    requires { ⌜ Grouped (now net) (now heads) (now nexts) ⌝ }
+    requires { ⌜ (s < junctionsOf (now net)) × (t < junctionsOf (now net)) ⌝ }
+    requires { ⌜ Skyline (networkOf (now net)) s t (pair time units) ⌝ }
+    requires { ⌜ (length (now junctions) ≡ 1024) × (length (now marks) ≡ 1024) ⌝ }
+    ensures { λ r. ⌜ RouteFound (now (net .entry)) s t (pair time units) r (now (junctions .exit)) ⌝ }
+{
+    route(
+        net,
+        labels,
+        depths,
+        starts,
+        heads,
+        nexts,
+        s,
+        t,
+        Seconds(time),
+        Energy(units),
+        junctions,
+        marks,
+    )
+}
+
+// How many entries the trade-off list of two junctions has.
+#[no_mangle]
+pub extern "C" fn measured_list_count(
+    net: &[u8],
+    labels: &[u8],
+    depths: &[u32; 1024],
+    starts: &[u32; 1024],
+    s: usize,
+    t: usize,
+    marks: &mut [u8; 1024],
+    near_times: &mut [u32; 4096],
+    near_energies: &mut [u32; 4096],
+    far_times: &mut [u32; 4096],
+    far_energies: &mut [u32; 4096],
+) -> u32
+    requires { ⌜ Prepared (now net) (now labels) (now depths) (now starts) ⌝ }
+    requires { ⌜ (s < junctionsOf (now labels)) × (t < junctionsOf (now labels)) ⌝ }
+    requires { ⌜ Lent (now marks) (now «near_times») (now «near_energies») (now «far_times») (now «far_energies») ⌝ }
+    ensures { λ r. ⌜ ((l : List Weight) → IsTradeOff (networkOf (now (net .entry))) s t l → r ≡ length l) ⌝ }
+{
+    list_count(
+        net,
+        labels,
+        depths,
+        starts,
+        s,
+        t,
+        marks,
+        near_times,
+        near_energies,
+        far_times,
+        far_energies,
+    )
+}
+
+// The list itself, whose count comes from the function above, into slices that have room for it.
+#[no_mangle]
+pub extern "C" fn measured_list_fill(
+    net: &[u8],
+    labels: &[u8],
+    depths: &[u32; 1024],
+    starts: &[u32; 1024],
+    s: usize,
+    t: usize,
+    count: u32,
+    times: &mut [u32],
+    energies: &mut [u32],
+    marks: &mut [u8; 1024],
+    near_times: &mut [u32; 4096],
+    near_energies: &mut [u32; 4096],
+    far_times: &mut [u32; 4096],
+    far_energies: &mut [u32; 4096],
+)
+    requires { ⌜ Prepared (now net) (now labels) (now depths) (now starts) ⌝ }
+    requires { ⌜ (s < junctionsOf (now labels)) × (t < junctionsOf (now labels)) ⌝ }
+    requires { ⌜ ((l : List Weight) → IsTradeOff (networkOf (now net)) s t l → count ≡ length l) ⌝ }
+    requires { ⌜ (count ≤ length (now times)) × (count ≤ length (now energies)) ⌝ }
+    requires { ⌜ Lent (now marks) (now «near_times») (now «near_energies») (now «far_times») (now «far_energies») ⌝ }
+    ensures { λ _. ⌜ ListWritten (now (net .entry)) s t (now (times .entry)) (now (energies .entry)) count (now (times .exit)) (now (energies .exit)) ⌝ }
+{
+    list_fill(
+        net,
+        labels,
+        depths,
+        starts,
+        s,
+        t,
+        count,
+        times,
+        energies,
+        marks,
+        near_times,
+        near_energies,
+        far_times,
+        far_energies,
+    );
 }
