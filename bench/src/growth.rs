@@ -15,7 +15,7 @@ pub const HEAD: &str = "\
 
 pub fn row(files: &Files) {
     let (net, labels) = (&files.net, &files.labels);
-    let asked = asked(files);
+    let asked = asked(files, None);
     let queries = batch(&asked);
     let mut answers = vec![0; queries.len()];
     let mut set = Accepted::new(net, labels).expect("the labels are right");

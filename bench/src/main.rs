@@ -36,8 +36,8 @@ fn main() {
     for files in inputs::right::all() {
         check(&files);
     }
-    for files in inputs::right::asked() {
-        queries::rows(&files);
+    for askable in inputs::right::askable() {
+        queries::rows(&askable);
     }
     let mut random = Random::new(0, 1);
     for size in [10, 100, 1_000, 4_095] {

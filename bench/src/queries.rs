@@ -2,6 +2,7 @@
 
 use crate::inputs::files::Files;
 use crate::inputs::queries::{Asked, asked, batch};
+use crate::inputs::right::Askable;
 use crate::plain::queries::{Answer, Queries};
 use crate::plain::search::Search;
 use crate::proved::Accepted;
@@ -32,8 +33,8 @@ pub fn found(asked: &[Asked], answers: &[u32]) -> Vec<Found> {
     found.collect()
 }
 
-pub fn rows(files: &Files) {
-    let asked = asked(files);
+pub fn rows(Askable { files, ends }: &Askable) {
+    let asked = asked(files, *ends);
     let mut plain = Queries::new(&files.net, &files.labels);
     let mut proved = Accepted::new(&files.net, &files.labels).expect("the labels are right");
     let mut search = Search::new(&files.net);
@@ -46,7 +47,9 @@ pub fn rows(files: &Files) {
         &mut plain,
         &mut proved,
     );
-    lists(files, &asked[..FEW], &mut plain, &mut search, &mut proved);
+    // The same list over and over would tell no more.
+    let few = if ends.is_some() { 1 } else { FEW };
+    lists(files, &asked[..few], &mut plain, &mut search, &mut proved);
 }
 
 /// One batch; its answers.
@@ -175,7 +178,10 @@ fn lists(
             counts.sum::<usize>()
         },
     );
-    let what = format!("{} lists, {total} entries", ends.len());
+    let what = match ends.len() {
+        1 => format!("1 list, {total} entries"),
+        count => format!("{count} lists, {total} entries"),
+    };
     row.print(&what, files.note);
     let row = pair(
         || {

@@ -16,8 +16,9 @@ pub struct Asked {
     pub limit: u32,
 }
 
-/// Triples over all junctions. Their limits come from the search without labels, which is run for some pairs only: it is slow.
-pub fn asked(files: &Files) -> Vec<Asked> {
+/// Triples over all junctions, or over the given two. Their limits come from the search without labels, which is run for some pairs only:
+/// it is slow.
+pub fn asked(files: &Files, ends: Option<[u32; 2]>) -> Vec<Asked> {
     const PAIRS: usize = 128;
     let junctions = usize::from(u16::from_le_bytes([files.net[6], files.net[7]]));
     let mut random = Random::new(0, 3);
@@ -25,10 +26,8 @@ pub fn asked(files: &Files) -> Vec<Asked> {
     let (mut times, mut energies) = (vec![0; 1 << 16], vec![0; 1 << 16]);
     let mut asked = Vec::new();
     for _ in 0..PAIRS {
-        let (s, t) = (
-            random.below(junctions) as u32,
-            random.below(junctions) as u32,
-        );
+        let mut junction = || random.below(junctions) as u32;
+        let [s, t] = ends.unwrap_or_else(|| [junction(), junction()]);
         let count = search.list(s, t, &mut times, &mut energies);
         assert!(count > 0, "the files are in one piece");
         for _ in 0..TRIPLES / PAIRS {

@@ -2,6 +2,7 @@
 
 use generate::files::network_bytes;
 use generate::forests::by_elimination;
+use generate::large;
 use generate::random::Random;
 use generate::right::Right;
 use model::network::{Network, Road};
@@ -27,22 +28,34 @@ pub fn all() -> Vec<Files> {
     ]
 }
 
-/// The same, and one whose junctions mostly meet in the middle, where lists are short and their joins long.
-pub fn asked() -> Vec<Files> {
-    let inward = (0..31).map(|turn| {
-        if turn % 2 == 0 {
-            turn / 2
-        } else {
-            30 - turn / 2
-        }
+/// Files and, where only two of their junctions are worth asking about, those.
+pub struct Askable {
+    pub files: Files,
+    pub ends: Option<[u32; 2]>,
+}
+
+/// The same files, asked about all over; then the longest lists, one stored and one joined where two branches meet.
+pub fn askable() -> Vec<Askable> {
+    let all = all().into_iter().map(|files| Askable { files, ends: None });
+    let longest = [
+        (
+            "a stored list of 4,095 entries, n = 37",
+            large::longest_list(),
+        ),
+        (
+            "a joined list of 8,192 entries, n = 40",
+            large::long_answer(),
+        ),
+    ];
+    let longest = longest.map(|(note, set)| Askable {
+        files: Files {
+            note,
+            net: set.network,
+            labels: set.labels,
+        },
+        ends: set.ends,
     });
-    let mut asked = all();
-    asked.push(files(
-        "long answers, n = 31",
-        diamonds(10),
-        inward.collect(),
-    ));
-    asked
+    all.chain(longest).collect()
 }
 
 /// Grids of one kind of roads and chains, each kind from small to large.
