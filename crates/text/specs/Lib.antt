@@ -3,3 +3,4 @@ pub mod Numbers
 pub mod Lines
 pub mod Queries
 pub mod Writing
+pub mod Spelling

@@ -5,3 +5,5 @@ pub enum QueryLine {
     Query(u32, u32, u32),
     Bad,
 }
+
+pub mod write;
