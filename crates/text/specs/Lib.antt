@@ -4,3 +4,4 @@ pub mod Lines
 pub mod Queries
 pub mod Writing
 pub mod Spelling
+pub mod Reading

@@ -7,3 +7,4 @@ pub enum QueryLine {
 }
 
 pub mod write;
+pub mod read;
