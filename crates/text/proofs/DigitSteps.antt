@@ -1,40 +1,19 @@
 -- The ways through a run of digits: none yet, one more, a byte that is no digit, the end of the line.
 use mathlib.Core.Path.{_≡_, refl, sym, ap, _∙_}
 use mathlib.Core.List.{List, [], _∷_, _++_}
-use Prim.Native.Nat.{ℕ, zero, suc, _+_, _-_, _*_, _≤_, _<_}
+use Prim.Native.Nat.{ℕ, _+_, _-_, _*_, _≤_, _<_}
 use native.Mathlib.Decide.{ℕ-discrete, decLe}
-use native.Mathlib.Numerals.{add-one}
 use native.Mathlib.Omega.{arith}
-use lib.ListN.{length, getD, take, drop, length-drop}
-use lib.Seq.{take-suc, getD-drop}
+use lib.ListN.{length, getD}
 use Rattle.text.specs.Numbers.{zeroByte, valueAfter, IsDigit}
-use Rattle.text.specs.Lines.{lineOf}
-use Rattle.text.specs.Reading.{mostNumber, Longer, Spelled, DigitsTo, DigitRun, DigitsRead}
+use Rattle.text.specs.Reading.{mostNumber, Longer, Spelled, DigitsTo, DigitsRead}
+use Rattle.text.proofs.LineParts.{line-empty, line-more}
 
 -- a digit more at the end of the bytes
 pub value-more : (value : ℕ) (bytes : List ℕ) (digit : ℕ) → valueAfter value (bytes ++ (digit ∷ [])) ≡ 10 * valueAfter value bytes + (digit - zeroByte)
 unfolding valueAfter
 value-more value [] digit = refl
 value-more value (byte ∷ bytes) digit = value-more (10 * value + (byte - zeroByte)) bytes digit
-
--- no byte stands between a place and itself
-pub line-empty : (input : List ℕ) (start : ℕ) → lineOf input start start ≡ []
-unfolding lineOf
-line-empty input start = let none : start - start ≡ 0 = omega arith in rw none
-
--- a byte more at the end of a part
-pub line-more : (input : List ℕ) (start to : ℕ) → start ≤ to → to < length input → lineOf input start (to + 1) ≡ lineOf input start to ++ (getD input to 0 ∷ [])
-unfolding lineOf
-line-more input start to h k =
-    ap (λ (n : ℕ). take n (drop start input)) first
-    ∙ take-suc (drop start input) (to - start) 0 (simp length-drop (omega arith))
-    ∙ ap (λ (b : ℕ). take (to - start) (drop start input) ++ (b ∷ [])) (getD-drop start input (to - start) 0 ∙ ap (λ (n : ℕ). getD input n 0) second)
-  where
-    first : to + 1 - start ≡ suc (to - start)
-    first = omega arith
-
-    second : start + (to - start) ≡ to
-    second = omega arith
 
 spelled-more :
     {bytes more : List ℕ} {value digit r : ℕ} (byte : ℕ) →

@@ -1,9 +1,10 @@
 -- A space at a byte of the line is told, or that there is none.
 use mathlib.Core.Path.{_≡_}
-use mathlib.Core.Bool.{true, false}
+use mathlib.Core.Bool.{Bool, true, false, not}
 use mathlib.Core.List.{List}
 use Prim.Native.Nat.{ℕ, _<_}
 use native.Mathlib.Omega.{arith}
+use borrow.Author.Tests.{not-true, not-false}
 use lib.ListN.{getD}
 use Rattle.text.specs.Numbers.{spaceByte}
 use Rattle.text.specs.Reading.{SpaceAt, SpaceTold}
@@ -15,3 +16,11 @@ module _ {input : List ℕ} {at end : ℕ} where
 
   pub no-space-told : (SpaceAt input at end → ⊥) → SpaceTold input at end false
   no-space-told h = record { holds = λ t. let z : _≡_ {A = ℕ} 0 1 = cc in absurd (omega arith); fails = λ f. h }
+
+  module _ {answer : Bool} (told : SpaceTold input at end answer) where
+    -- what a test for a missing space says
+    pub space-missing : not answer ≡ true → SpaceAt input at end → ⊥
+    space-missing t = told .fails (not-true answer t)
+
+    pub space-stands : not answer ≡ false → SpaceAt input at end
+    space-stands f = told .holds (not-false answer f)

@@ -10,10 +10,6 @@ use Rattle.text.proofs.ByteKinds.{digit-is, digit-value, no-digit}
 use Rattle.text.proofs.DigitSteps.{no-digit-yet, one-digit-more, digits-stop}
 use Rattle.text.proofs.read.read_digits.Statement.{statement}
 use Rattle.text.proofs.read.read_digits.Tie as tie
-use Rattle.text.proofs.read.read_digits.Reads as reads
-use Rattle.text.proofs.read.read_digits.Lts as lts
-use Rattle.text.proofs.read.kind_of.Reads as kind-of-reads
-use Rattle.text.proofs.read.longer.Reads as longer-reads
 
 abbrev Inv-loop : tie.InvT-loop
 Inv-loop input start end value₀ next₀ value next = (next ≤ end) × (end ≤ length input) × DigitsTo input start next value
@@ -21,44 +17,35 @@ Inv-loop input start end value₀ next₀ value next = (next ≤ end) × (end �
 abbrev μ-loop : tie.MeasureT-loop
 μ-loop input start end value₀ next₀ value next = end - next
 
--- src/read.rt:85:5
 loop-holds : tie.Need-loop-holds Inv-loop μ-loop
 loop-holds c = (omega arith, omega arith, no-digit-yet (omega arith))
 
--- src/read.rt:86:29
 shared-slice-read-kind-of : tie.Need-shared-slice-read-kind-of Inv-loop μ-loop
 shared-slice-read-kind-of c = search needs
 
--- src/read.rt:86:13
 kind-of-requires : tie.Need-kind-of-requires Inv-loop μ-loop
 kind-of-requires c κs = search needs
 
--- src/read.rt:87:25
 enum-known-found : tie.Need-enum-known-found Inv-loop μ-loop
 enum-known-found c = search needs
 
--- src/read.rt:88:13
 returns : tie.Need-returns Inv-loop μ-loop
 returns c =
     let held = c .before .before .before .before .loop .inv in
     digits-stop (held .2) (held .0)
     (λ below. no-digit (c .before .kind-of .ensures) (λ value e. miss (1 ∷ (2 ∷ (3 ∷ []))) 0 tt (rw e at (c .match .keys2))))
 
--- src/read.rt:90:9
 longer-requires : tie.Need-longer-requires Inv-loop μ-loop
 longer-requires c κs =
     let read = c .before .before .before .kind-of .ensures in
     omega (arith, digit-value read (c .before .found .given .1), digit-is read (c .before .found .given .1) .to-nine)
 
--- src/read.rt:91:9
 add-next : tie.Need-add-next Inv-loop μ-loop
 add-next c = search needs
 
--- src/read.rt:85:5
 loop-less : tie.Need-loop-less Inv-loop μ-loop
 loop-less c = search needs
 
--- src/read.rt:85:5
 loop-again : tie.Need-loop-again Inv-loop μ-loop
 loop-again c =
     let held = c .before .before .before .before .before .before .before .loop .inv in
@@ -66,7 +53,6 @@ loop-again c =
     let told = c .before .before .found .given .1 in
     (omega arith, held .1, one-digit-more (held .2) (omega arith) (digit-is read told) (digit-value read told) (c .longer .ensures))
 
--- src/read.rt:79:1
 returns-2 : tie.Need-returns-2 Inv-loop μ-loop
 returns-2 c = digits-stop (c .before .loop .inv .2) (c .before .loop .inv .0) (λ below. absurd (omega arith))
 

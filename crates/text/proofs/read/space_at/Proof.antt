@@ -9,27 +9,21 @@ use Rattle.text.proofs.SpaceSteps.{space-told, no-space-told}
 use Rattle.text.proofs.read.space_at.Statement.{statement}
 use Rattle.text.proofs.read.space_at.Tie as tie
 
--- src/read.rt:124:9
 returns : tie.Need-returns
 returns c = no-space-told (λ s. omega (arith, s .inside))
 
--- src/read.rt:126:25
 shared-slice-read-kind-of : tie.Need-shared-slice-read-kind-of
 shared-slice-read-kind-of c = search needs
 
--- src/read.rt:126:9
 kind-of-requires : tie.Need-kind-of-requires
 kind-of-requires c κs = search needs
 
--- src/read.rt:127:34
 enum-told : tie.Need-enum-told
 enum-told c = search needs
 
--- src/read.rt:119:1
 returns-2 : tie.Need-returns-2
 returns-2 c = space-told (omega arith) (search (space-is))
 
--- src/read.rt:119:1
 returns-3 : tie.Need-returns-3
 returns-3 c =
     no-space-told (λ s. no-space (c .before .kind-of .ensures) (λ e. miss (0 ∷ (2 ∷ (3 ∷ []))) 1 tt (rw e at (c .match .keys2))) (s .space))

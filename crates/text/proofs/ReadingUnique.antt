@@ -1,0 +1,57 @@
+-- A line ends at one byte, a line says one query, and nothing else can be read of it.
+use mathlib.Core.Path.{_≡_, sym, _∙_}
+use mathlib.Core.List.{List}
+use Prim.Native.Nat.{ℕ, _+_, _<_}
+use native.Mathlib.Decide.{decLt}
+use native.Mathlib.Omega.{arith}
+use lib.ListN.{length}
+use Rattle.text.specs.Lines.{LineEnds}
+use Rattle.text.specs.Queries.{IsQuery, QueryRead, query, bad}
+use Rattle.text.specs.Reading.{NumberAt, QueryAt}
+use Rattle.text.specs.declared.QueryLine.{QueryLine}
+use Rattle.text.proofs.LineParts.{line-whole}
+use Rattle.text.proofs.NumberSteps.{SameNumber, number-unique}
+use Rattle.text.proofs.QuerySteps.{query-at}
+
+module _ {input : List ℕ} {start : ℕ} where
+  no-later : {e e′ : ℕ} → LineEnds input start e → LineEnds input start e′ → e < e′ → ⊥
+  no-later {e} p q h = q .no-newline e (p .forward) h (p .newline (omega (arith, q .inside)))
+
+  -- No second end meets the statement of a line's end
+  pub line-end-unique : {e e′ : ℕ} → LineEnds input start e → LineEnds input start e′ → e ≡ e′
+  line-end-unique {e} {e′} p q = pick (decLt e e′) (decLt e′ e)
+    where
+      pick : Dec (e < e′) → Dec (e′ < e) → e ≡ e′
+      pick (yes h) d = absurd (no-later p q h)
+      pick (no h) (yes k) = absurd (no-later q p k)
+      pick (no h) (no k) = omega arith
+
+pub record SameQuery (s t C s′ t′ C′ : ℕ) : Type 0 where
+  pub same-s : s ≡ s′
+  pub same-t : t ≡ t′
+  pub same-C : C ≡ C′
+
+module _ {input : List ℕ} {start end : ℕ} where
+  places-unique : {s t C s′ t′ C′ : ℕ} → QueryAt input start end s t C → QueryAt input start end s′ t′ C′ → SameQuery s t C s′ t′ C′
+  places-unique {t = t} {C = C} p q = record { same-s = one .one-number; same-t = two .one-number; same-C = three .one-number }
+    where
+      one : SameNumber _ (p .after-s) _ (q .after-s)
+      one = number-unique (p .first) (q .first)
+
+      two : SameNumber _ (p .after-t) _ (q .after-t)
+      two = number-unique (rw (one .one-end) at (p .second)) (q .second)
+
+      three : SameNumber _ end _ end
+      three = number-unique (rw (two .one-end) at (p .third)) (q .third)
+
+module _ {line : List ℕ} where
+  -- A line says at most one query
+  pub query-unique : {s t C s′ t′ C′ : ℕ} → IsQuery line s t C → IsQuery line s′ t′ C′ → SameQuery s t C s′ t′ C′
+  query-unique p q = places-unique (query-at (omega arith) (omega arith) (rw line-whole p)) (query-at (omega arith) (omega arith) (rw line-whole q))
+
+  -- Nothing else can be read of a line
+  pub query-read-unique : {r r′ : QueryLine} → QueryRead line r → QueryRead line r′ → r ≡ r′
+  query-read-unique (query s t C p e) (query s′ t′ C′ q f) = let same = query-unique p q in cc (same .same-s, same .same-t, same .same-C)
+  query-read-unique (query s t C p e) (bad n f) = absurd (n s t C p)
+  query-read-unique (bad n e) (query s t C p f) = absurd (n s t C p)
+  query-read-unique (bad n e) (bad m f) = e ∙ sym f
