@@ -1,0 +1,2 @@
+-- Why the program prints what the definitions say, and that it can print nothing else.
+pub mod LineLaws
