@@ -1,6 +1,6 @@
 -- Parts of an input between two bytes. In this order: empty; its length and its bytes; one byte more; cut at a byte; cut where its
 -- bytes are known.
-use mathlib.Core.Path.{_≡_, refl, sym, ap, _∙_}
+use mathlib.Core.Path.{_≡_, sym, ap, _∙_}
 use mathlib.Core.List.{List, [], _∷_, _++_}
 use Prim.Native.Nat.{ℕ, suc, _+_, _-_, _≤_, _<_}
 use native.Mathlib.Omega.{arith}

@@ -6,7 +6,7 @@ use Prim.Native.Nat.{ℕ, zero, suc, _+_, _-_, _≤_, _<_}
 use native.Mathlib.Decide.{decLt}
 use native.Mathlib.Omega.{arith}
 use lib.ListN.{length, getD}
-use Rattle.text.specs.Numbers.{zeroByte, valueAfter, IsDigit, IsNumeral}
+use Rattle.text.specs.Numbers.{zeroByte, IsDigit, IsNumeral}
 use Rattle.text.specs.Lines.{lineOf}
 use Rattle.text.specs.Reading.{mostNumber, DigitRun, DigitsRead, NumberAt, NumberRead, read, bad}
 use Rattle.text.specs.declared.read.Number.{Number}

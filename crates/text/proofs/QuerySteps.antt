@@ -1,16 +1,16 @@
 -- A query line by its bytes and by its places, and the ways to read one: six that find it bad, one that reads it.
-use mathlib.Core.Path.{_≡_, refl, sym, ap, _∙_, subst}
+use mathlib.Core.Path.{_≡_, refl, ap, _∙_, subst}
 use mathlib.Core.List.{List, _∷_, _++_}
-use Prim.Native.Nat.{ℕ, _+_, _≤_, _<_}
+use Prim.Native.Nat.{ℕ, _+_, _≤_}
 use native.Mathlib.Omega.{arith}
-use lib.ListN.{length, getD}
-use Rattle.text.specs.Numbers.{spaceByte, IsDigit}
+use lib.ListN.{length}
+use Rattle.text.specs.Numbers.{spaceByte}
 use Rattle.text.specs.Lines.{lineOf}
 use Rattle.text.specs.Queries.{IsQuery, QueryRead, query, bad}
 use Rattle.text.specs.Reading.{NumberAt, SpaceAt, QueryAt}
 use Rattle.text.specs.declared.QueryLine.the-variants as case
 use Rattle.text.proofs.LineParts.{Cut, line-cut, line-split}
-use Rattle.text.proofs.NumberSteps.{SameNumber, number-unique, numeral-at}
+use Rattle.text.proofs.NumberSteps.{number-unique, numeral-at}
 
 module _ {input : List ℕ} {start end : ℕ} (forward : start ≤ end) (fits : end ≤ length input) where
   -- the places of a query line

@@ -1,13 +1,13 @@
 -- A line ends at one byte, a line says one query, and nothing else can be read of it.
 use mathlib.Core.Path.{_≡_, sym, _∙_}
 use mathlib.Core.List.{List}
-use Prim.Native.Nat.{ℕ, _+_, _<_}
+use Prim.Native.Nat.{ℕ, _<_}
 use native.Mathlib.Decide.{decLt}
 use native.Mathlib.Omega.{arith}
 use lib.ListN.{length}
 use Rattle.text.specs.Lines.{LineEnds}
 use Rattle.text.specs.Queries.{IsQuery, QueryRead, query, bad}
-use Rattle.text.specs.Reading.{NumberAt, QueryAt}
+use Rattle.text.specs.Reading.{QueryAt}
 use Rattle.text.specs.declared.QueryLine.{QueryLine}
 use Rattle.text.proofs.LineParts.{line-whole}
 use Rattle.text.proofs.NumberSteps.{SameNumber, number-unique}
@@ -33,21 +33,23 @@ pub record SameQuery (s t C s′ t′ C′ : ℕ) : Type 0 where
 
 module _ {input : List ℕ} {start end : ℕ} where
   places-unique : {s t C s′ t′ C′ : ℕ} → QueryAt input start end s t C → QueryAt input start end s′ t′ C′ → SameQuery s t C s′ t′ C′
-  places-unique {t = t} {C = C} p q = record { same-s = one .one-number; same-t = two .one-number; same-C = three .one-number }
+  places-unique {s} {t} {C} {s′} {t′} {C′} p q =
+      record { same-s = one .one-number; same-t = two .one-number; same-C = number-unique (rw (two .one-end) at (p .third)) (q .third) .one-number }
     where
-      one : SameNumber _ (p .after-s) _ (q .after-s)
+      one : SameNumber s (p .after-s) s′ (q .after-s)
       one = number-unique (p .first) (q .first)
 
-      two : SameNumber _ (p .after-t) _ (q .after-t)
+      two : SameNumber t (p .after-t) t′ (q .after-t)
       two = number-unique (rw (one .one-end) at (p .second)) (q .second)
 
-      three : SameNumber _ end _ end
-      three = number-unique (rw (two .one-end) at (p .third)) (q .third)
-
 module _ {line : List ℕ} where
+  -- the line as the whole of an input
+  whole-at : {s t C : ℕ} → IsQuery line s t C → QueryAt line 0 (length line) s t C
+  whole-at q = query-at (omega arith) (omega arith) (rw line-whole q)
+
   -- A line says at most one query
   pub query-unique : {s t C s′ t′ C′ : ℕ} → IsQuery line s t C → IsQuery line s′ t′ C′ → SameQuery s t C s′ t′ C′
-  query-unique p q = places-unique (query-at (omega arith) (omega arith) (rw line-whole p)) (query-at (omega arith) (omega arith) (rw line-whole q))
+  query-unique p q = places-unique (whole-at p) (whole-at q)
 
   -- Nothing else can be read of a line
   pub query-read-unique : {r r′ : QueryLine} → QueryRead line r → QueryRead line r′ → r ≡ r′

@@ -69,10 +69,10 @@ fn longer(value: u64, digit: u64) -> u64
     requires { ⌜ digit ≤ 9 ⌝ }
     ensures { λ r. ⌜ Longer value digit r ⌝ }
 {
-    if value > MOST {
-        return value;
+    if value <= MOST {
+        return 10 * value + digit;
     }
-    10 * value + digit
+    value
 }
 
 // The digits from a byte on, as many as there are.

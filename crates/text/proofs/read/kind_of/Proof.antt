@@ -1,5 +1,5 @@
 -- Each arm of the match is a case of the definition; the two single bytes are no digits, and what is left is none of them.
-use mathlib.Core.Path.{refl, ap, _∙_}
+use mathlib.Core.Path.{refl, ap}
 use native.Mathlib.Omega.{arith}
 use borrow.Author.Needs.{needs}
 use Rattle.text.specs.Reading.{digit, space, newline, other}

@@ -22,7 +22,7 @@ returns-2 : tie.Need-returns-2
 returns-2 c = leading-zero (omega arith) (c .before .before .before .before .read-digits .ensures) (omega arith) (c .if3 .taken)
 
 returns-3 : tie.Need-returns-3
-returns-3 c = too-large (omega arith) (c .before .before .before .read-digits .ensures) (c .if4 .taken)
+returns-3 c = too-large (omega arith) (c .before .before .before .read-digits .ensures) (omega arith)
 
 cast-t12 : tie.Need-cast-t12
 cast-t12 c = search needs

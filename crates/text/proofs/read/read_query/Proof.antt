@@ -98,7 +98,7 @@ returns-6 c =
     let first = number-at (f .before .before .read-number .ensures) (f .first .given .1) in
     let second = number-at (g .before .before .read-number2 .ensures) (g .second .given .1) in
     let third = number-at (h .before .before .read-number3 .ensures) (h .third .given .1) in
-    bytes-left (omega arith) (omega arith) first second third (c .if3 .taken)
+    bytes-left (omega arith) (omega arith) first second third (λ e. omega arith)
 
 returns-7 : tie.Need-returns-7
 returns-7 c =

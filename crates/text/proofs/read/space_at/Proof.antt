@@ -1,5 +1,4 @@
 -- A space stands at the byte exactly if the line has the byte and it reads as a space.
-use mathlib.Core.Path.{_≡_}
 use mathlib.Core.List.{[], _∷_}
 use native.Mathlib.Omega.{arith}
 use types.Run.{miss}
