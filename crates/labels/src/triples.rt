@@ -9,7 +9,7 @@ ghost use Rattle.query.specs.Prepared.{Prepared, Lent};
 ghost use Rattle.labels.specs.Working.{putTriple, AnsweredTo, Triples};
 
 // "21, 22, 23"; 0 for a found pair.
-fn code(answer: Answer) -> u32
+pub fn code(answer: Answer) -> u32
     ensures { λ r. ⌜ r ≡ numberOf answer ⌝ }
 {
     match answer {

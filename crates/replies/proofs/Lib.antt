@@ -1,2 +1,4 @@
 -- Why the program prints what the definitions say, and that it can print nothing else.
 pub mod LineLaws
+pub mod ReplyWays
+pub mod FillSteps

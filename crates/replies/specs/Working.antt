@@ -1,11 +1,16 @@
 -- What the working functions behind a reply leave in the buffer.
+use mathlib.Core.Path.{_≡_}
 use mathlib.Core.List.{List, [], _∷_, _++_}
-use Prim.Native.Nat.{ℕ, _+_, _≤_}
-use lib.ListN.{length}
+use Prim.Native.Nat.{ℕ, _+_, _≤_, _<_}
+use lib.ListN.{length, take}
 use Rattle.text.specs.Numbers.{numeral, spaceByte}
+use Rattle.text.specs.Queries.{IsQuery}
 use Rattle.text.specs.Writing.{Appended}
+use Rattle.network.specs.Roads.{Grouped}
+use Rattle.query.specs.Prepared.{Prepared, Lent}
 use Rattle.replies.specs.Lines.{_␣_}
 use Rattle.replies.specs.Reply.{Reply}
+use Rattle.replies.specs.Printed.{Replies}
 
 -- Text behind the first `at` bytes, of at most so many bytes
 pub record Put (before : List ℕ) (at : ℕ) (bytes : List ℕ) (most : ℕ) (after : List ℕ) (end : ℕ) : Type 0 where
@@ -26,3 +31,26 @@ pub record Replied (net line before : List ℕ) (at : ℕ) (after : List ℕ) (e
   pub put : Appended before at bytes after end
   pub is : Reply net line bytes
   pub short : length bytes ≤ 11344
+
+-- The line of a query stands in the buffer, whatever its bytes were
+pub record QueryReplied (net : List ℕ) (s t C : ℕ) (before : List ℕ) (at : ℕ) (after : List ℕ) (end : ℕ) : Type 0 where
+  pub bytes : List ℕ
+  pub put : Appended before at bytes after end
+  pub is : (line : List ℕ) → IsQuery line s t C → Reply net line bytes
+  pub short : length bytes ≤ 11344
+
+-- An accepted set with the tables of one check
+pub record Ready (net labels depths starts heads nexts : List ℕ) : Type 0 where
+  pub prepared : Prepared net labels depths starts
+  pub grouped : Grouped net heads nexts
+
+-- The places lent to every reply
+pub record Places (junctions marks nearTimes nearEnergies farTimes farEnergies : List ℕ) : Type 0 where
+  pub junctions-places : length junctions ≡ 1024
+  pub lent : Lent marks nearTimes nearEnergies farTimes farEnergies
+
+-- The buffer holds the replies to the lines from byte `from` on and before byte `next`, and at least one if there is a line
+pub record FilledTo (net input : List ℕ) (from : ℕ) (out : List ℕ) (next used : ℕ) : Type 0 where
+  pub replies : Replies net input from next (take used out)
+  pub inside : used ≤ length out
+  pub onward : from < length input → from < next

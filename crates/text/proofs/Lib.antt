@@ -9,3 +9,5 @@ pub mod SpaceSteps
 pub mod NumberSteps
 pub mod QuerySteps
 pub mod ReadingUnique
+pub mod WritingLaws
+pub mod NumeralRead

@@ -1,0 +1,97 @@
+-- The ways through a reply: a bad line, a query without an answer, a found pair with its route.
+use mathlib.Core.Path.{_≡_, refl, sym, ap, _∙_}
+use mathlib.Core.Logic.{_⊎_, inl, inr, ⊎-elim}
+use mathlib.Core.List.{List, [], _∷_}
+use Prim.Native.Nat.{ℕ, zero, suc, _+_, _≤_, _<_}
+use native.Mathlib.Omega.{arith}
+use lib.ListN.{length, take}
+use Rattle.text.specs.Queries.{IsQuery, BadLine, QueryRead, query, bad}
+use Rattle.text.specs.declared.QueryLine.{QueryLine}
+use Rattle.text.specs.declared.QueryLine.the-variants as line
+use Rattle.paths.specs.declared.seconds.Seconds.{Seconds}
+use Rattle.paths.specs.declared.energy.Energy.{Energy}
+use Rattle.paths.specs.Weights.{pair, energy}
+use Rattle.paths.specs.TradeOff.{Skyline}
+use Rattle.paths.specs.Network.{Network, Walk, stay, go, junctions}
+use Rattle.paths.specs.Answer.{Best}
+use Rattle.paths.proofs.Answers.{best-is-skyline}
+use Rattle.paths.proofs.Figures.{number-lawful}
+use Rattle.network.specs.NetworkFile.{networkOf, junctionsOf}
+use Rattle.query.specs.declared.Answer.{Answer}
+use Rattle.query.specs.declared.Answer.the-variants as case
+use Rattle.query.specs.Answers.{Answers, numberOf, timeOf, energyOf, off-map, not-connected, over-limit, found}
+use Rattle.routes.specs.Written.{RouteFound}
+use Rattle.replies.specs.Lines.{answerLine, badLine, hyphened, noRoute}
+use Rattle.replies.specs.Reply.{Reply}
+use Rattle.replies.specs.Reply as reply
+use Rattle.replies.specs.Working.{Put, QueryReplied, Replied}
+
+-- ---- A found pair
+
+pub record FoundPair (net : List ℕ) (s t time units : ℕ) : Type 0 where
+  pub s-on-map : s < junctionsOf net
+  pub t-on-map : t < junctionsOf net
+  pub unbeaten : Skyline (networkOf net) s t (pair time units)
+
+-- number 0 is given to a best pair alone, which nothing beats
+pub found-pair : {net : List ℕ} {s t C time units : ℕ} → Answers net s t C 0 time units → FoundPair net s t time units
+found-pair (off-map o n u v) = absurd (omega arith)
+found-pair (not-connected h k none n u v) = absurd (omega arith)
+found-pair (over-limit h k out n u v) = absurd (omega arith)
+found-pair (found h k best n) = record { s-on-map = h; t-on-map = k; unbeaten = best-is-skyline number-lawful best }
+
+-- a walk meets a junction
+some-junction : {net : List ℕ} {s t : ℕ} (w : Walk (networkOf net) s t) → 1 ≤ length (junctions w)
+unfolding junctions
+some-junction stay = omega arith
+some-junction (go a rest) = omega arith
+
+-- the first places hold a route of one junction at least
+pub record RouteSized (count : ℕ) (places : List ℕ) : Type 0 where
+  pub some : 1 ≤ count
+  pub few : count ≤ length places
+
+pub route-sized : {net : List ℕ} {s t time units count : ℕ} {places : List ℕ} → RouteFound net s t (pair time units) count places → RouteSized count places
+route-sized {count = zero} route = absurd (omega (arith, some-junction (route .first .walk), ap length (route .first .meets)))
+route-sized {count = suc count} route = record { some = omega arith; few = route .room }
+
+-- ---- What stands in the buffer
+
+module _ {net before after : List ℕ} {at end s t C : ℕ} where
+  pub found-replied :
+      {time units count : ℕ} {places : List ℕ} →
+      Answers net s t C 0 time units → RouteFound net s t (pair time units) count places →
+      Put before at (answerLine s t C 0 time units (hyphened (take count places))) 11344 after end → QueryReplied net s t C before at after end
+  found-replied {time} {units} {count} {places} answers route line =
+      record {
+        bytes = answerLine s t C 0 time units (hyphened (take count places));
+        put = line .put;
+        is = λ text h. reply.answered s t C time units (take count places) h answers (route .first) refl;
+        short = omega (arith, line .short, line .put .ends);
+      }
+
+  pub refused-replied :
+      {number : ℕ} → Answers net s t C number 0 0 → (number ≡ 0 → ⊥) → Put before at (answerLine s t C number 0 0 noRoute) 68 after end →
+      QueryReplied net s t C before at after end
+  refused-replied {number} answers some line =
+      record {
+        bytes = answerLine s t C number 0 0 noRoute;
+        put = line .put;
+        is = λ text h. reply.refused s t C number h answers some refl;
+        short = omega (arith, line .short, line .put .ends);
+      }
+
+  pub query-replied : {text : List ℕ} → IsQuery text s t C → QueryReplied net s t C before at after end → Replied net text before at after end
+  query-replied {text} h replied = record { bytes = replied .bytes; put = replied .put; is = replied .is text h; short = replied .short }
+
+pub bad-replied : {net text before after : List ℕ} {at end : ℕ} → BadLine text → Put before at badLine 15 after end → Replied net text before at after end
+bad-replied h line = record { bytes = badLine; put = line .put; is = reply.bad h refl; short = omega (arith, line .short, line .put .ends) }
+
+-- ---- What was read
+
+pub read-query : {text : List ℕ} {r : QueryLine} {s t C : ℕ} → QueryRead text r → r ≡ line.Query s t C → IsQuery text s t C
+read-query {text} (query s t C h e) f = same (sym e ∙ f) h
+  where
+    same : {s t C s′ t′ C′ : ℕ} → line.Query s t C ≡ line.Query s′ t′ C′ → IsQuery text s t C → IsQuery text s′ t′ C′
+    same {s} {t} {C} {s′} {t′} {C′} g h = let a : s ≡ s′ = cc in let b : t ≡ t′ = cc in let c : C ≡ C′ = cc in rw (a, b, c) at h
+read-query (bad n e) f = let z : _≡_ {A = ℕ} 0 1 = cc in absurd (omega arith)

@@ -1,0 +1,65 @@
+// The replies to as many lines as the buffer takes.
+use crate::Filled;
+use crate::reply::reply;
+use text::read::line_end;
+ghost use mathlib.Core.Path.{_≡_};
+ghost use Prim.Native.Nat.{_≤_};
+ghost use lib.ListN.{length};
+ghost use Rattle.replies.specs.Working.{Ready, Places, FilledTo};
+
+// Replies to the lines from byte `from` on as long as the longest reply is sure to fit.
+pub fn fill(
+    net: &[u8],
+    labels: &[u8],
+    depths: &[u32; 1024],
+    starts: &[u32; 1024],
+    heads: &[u32; 1024],
+    nexts: &[u32; 8192],
+    input: &[u8],
+    from: usize,
+    out: &mut [u8],
+    junctions: &mut [u32; 1024],
+    marks: &mut [u8; 1024],
+    near_times: &mut [u32; 4096],
+    near_energies: &mut [u32; 4096],
+    far_times: &mut [u32; 4096],
+    far_energies: &mut [u32; 4096],
+) -> Filled
+    requires { ⌜ Ready (now net) (now labels) (now depths) (now starts) (now heads) (now nexts) ⌝ }
+    requires { ⌜ Places (now junctions) (now marks) (now «near_times») (now «near_energies») (now «far_times») (now «far_energies») ⌝ }
+    requires { ⌜ (length (now input) ≤ 65536) × (length (now out) ≡ 65536) ⌝ }
+    ensures { λ r. ⌜ FilledTo (now (net .entry)) (now (input .entry)) from (now (out .exit)) (r .next) (r .used) ⌝ }
+    ensures { λ _.
+        ⌜ Places (now (junctions .exit)) (now (marks .exit)) (now («near_times» .exit)) (now («near_energies» .exit))
+        (now («far_times» .exit)) (now («far_energies» .exit)) ⌝ }
+{
+    let mut next = from;
+    let mut used: usize = 0;
+    while next < input.len() {
+        if used > 53248 {
+            return Filled { next: next, used: used };
+        }
+        let end = line_end(input, next);
+        used = reply(
+            net,
+            labels,
+            depths,
+            starts,
+            heads,
+            nexts,
+            input,
+            next,
+            end,
+            out,
+            used,
+            junctions,
+            marks,
+            near_times,
+            near_energies,
+            far_times,
+            far_energies,
+        );
+        next = end + 1;
+    }
+    Filled { next: next, used: used }
+}
