@@ -1,4 +1,6 @@
 -- Why the program prints what the definitions say, and that it can print nothing else.
 pub mod LineLaws
 pub mod ReplyWays
+pub mod FirstLines
 pub mod FillSteps
+pub mod RepliesUnique

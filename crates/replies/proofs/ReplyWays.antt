@@ -95,3 +95,43 @@ read-query {text} (query s t C h e) f = same (sym e ∙ f) h
     same : {s t C s′ t′ C′ : ℕ} → line.Query s t C ≡ line.Query s′ t′ C′ → IsQuery text s t C → IsQuery text s′ t′ C′
     same {s} {t} {C} {s′} {t′} {C′} g h = let a : s ≡ s′ = cc in let b : t ≡ t′ = cc in let c : C ≡ C′ = cc in rw (a, b, c) at h
 read-query (bad n e) f = let z : _≡_ {A = ℕ} 0 1 = cc in absurd (omega arith)
+
+-- a line that was not read as a query is bad
+pub record ReadAsQuery (r : QueryLine) : Type 0 where
+  pub s : ℕ
+  pub t : ℕ
+  pub C : ℕ
+  pub is : r ≡ line.Query s t C
+
+pub query-or-bad : {text : List ℕ} {r : QueryLine} → QueryRead text r → ReadAsQuery r ⊎ BadLine text
+query-or-bad (query s t C h e) = inl (record { s = s; t = t; C = C; is = e })
+query-or-bad (bad n e) = inr n
+
+-- ---- What was answered
+
+-- an answer is a found pair, or it carries zeros beside a number
+pub record FoundIn (a : Answer) : Type 0 where
+  pub time : Seconds
+  pub units : Energy
+  pub is : a ≡ case.Found time units
+
+pub record Refusal (a : Answer) : Type 0 where
+  pub some-number : numberOf a ≡ 0 → ⊥
+  pub no-time : timeOf a ≡ 0
+  pub no-energy : energyOf a ≡ 0
+
+pub pair-or-refusal : (a : Answer) → FoundIn a ⊎ Refusal a
+pair-or-refusal (case.Found time units) = inl (record { time = time; units = units; is = refl })
+pair-or-refusal case.OffMap = inr (record { some-number = λ e. omega arith; no-time = refl; no-energy = refl })
+pair-or-refusal case.NotConnected = inr (record { some-number = λ e. omega arith; no-time = refl; no-energy = refl })
+pair-or-refusal case.OverLimit = inr (record { some-number = λ e. omega arith; no-time = refl; no-energy = refl })
+
+module _ {net : List ℕ} {s t C : ℕ} {a : Answer} (answers : Answers net s t C (numberOf a) (timeOf a) (energyOf a)) where
+  pub found-zero : {time : Seconds} {units : Energy} → a ≡ case.Found time units → Answers net s t C 0 (time .0) (units .0)
+  found-zero e = rw e at answers
+
+  pub refusal-replied :
+      {before after : List ℕ} {at end number : ℕ} → Refusal a → number ≡ numberOf a →
+      Put before at (answerLine s t C number 0 0 noRoute) 68 after end → QueryReplied net s t C before at after end
+  refusal-replied refusal e line =
+      refused-replied (rw e (rw (refusal .no-time, refusal .no-energy) at answers)) (λ z. refusal .some-number (sym e ∙ z)) line

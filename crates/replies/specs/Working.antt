@@ -6,9 +6,12 @@ use lib.ListN.{length, take}
 use Rattle.text.specs.Numbers.{numeral, spaceByte}
 use Rattle.text.specs.Queries.{IsQuery}
 use Rattle.text.specs.Writing.{Appended}
+use Rattle.network.specs.NetworkFile.{junctionsOf, roadsOf}
 use Rattle.network.specs.Roads.{Grouped}
+use Rattle.files.specs.LabelFile.{entriesOf}
 use Rattle.query.specs.Prepared.{Prepared, Lent}
-use Rattle.replies.specs.Lines.{_␣_}
+use Rattle.labels.specs.Working.{Accepting}
+use Rattle.replies.specs.Lines.{_␣_, headingLine, refusedLine}
 use Rattle.replies.specs.Reply.{Reply}
 use Rattle.replies.specs.Printed.{Replies}
 
@@ -54,3 +57,11 @@ pub record FilledTo (net input : List ℕ) (from : ℕ) (out : List ℕ) (next u
   pub replies : Replies net input from next (take used out)
   pub inside : used ≤ length out
   pub onward : from < length input → from < next
+
+-- The check's outcome and the first line: the heading of an accepted set, or the refusal
+pub record FirstLine (net s : List ℕ) (depths starts heads nexts out : List ℕ) (number used : ℕ) : Type 0 where
+  pub accepting : Accepting net s number depths starts heads nexts
+  pub heading : number ≡ 0 → take used out ≡ headingLine (junctionsOf net) (roadsOf net) (entriesOf s)
+  pub refusal : (number ≡ 0 → ⊥) → take used out ≡ refusedLine number
+  pub inside : used ≤ length out
+  pub places : length out ≡ 65536

@@ -1,0 +1,70 @@
+-- The first line: the heading of an accepted set, or the refusal.
+use mathlib.Core.Path.{_≡_, refl, sym, ap, _∙_}
+use mathlib.Core.List.{List, [], _++_}
+use Prim.Native.Nat.{ℕ, _+_, _≤_, _<_}
+use native.Mathlib.Omega.{arith}
+use lib.ListN.{length, take}
+use Rattle.network.specs.Bytes.{u32At}
+use Rattle.network.specs.Reads.{ReadU16}
+use Rattle.network.specs.NetworkFile.{junctionsOf, roadsOf}
+use Rattle.files.specs.LabelFile.{entriesOf}
+use Rattle.exact.specs.Agreeing.{ListRoom}
+use Rattle.labels.specs.Working.{Accepting}
+use Rattle.labels.proofs.Accepted.{ready-for-queries}
+use Rattle.replies.specs.Lines.{headingLine, refusedLine}
+use Rattle.replies.specs.Working.{Put, Ready, Places, FirstLine}
+
+module _ {net s depths starts heads nexts : List ℕ} {number : ℕ} (accepting : Accepting net s number depths starts heads nexts) where
+  -- what queries stand on
+  pub ready : number ≡ 0 → Ready net s depths starts heads nexts
+  ready zero = record { prepared = ready-for-queries accepting zero; grouped = accepting .tables zero .grouped }
+
+  -- both headers are there
+  pub net-long : number ≡ 0 → 16 ≤ length net
+  net-long zero = omega (arith, ready zero .prepared .beside .network .whole)
+
+  pub labels-long : number ≡ 0 → 16 ≤ length s
+  labels-long zero = omega (arith, ready zero .prepared .beside .labels .parents .inside)
+
+  pub first-refused :
+      {before after : List ℕ} {end : ℕ} → (number ≡ 0 → ⊥) → length before ≡ 65536 → Put before 0 (refusedLine number) 64 after end →
+      FirstLine net s depths starts heads nexts after number end
+  first-refused some long line =
+      record {
+        accepting = accepting;
+        heading = λ zero. absurd (some zero);
+        refusal = λ z. line .put .holds;
+        inside = omega (arith, line .short, line .put .one-length);
+        places = line .put .one-length ∙ long;
+      }
+
+  pub first-heading :
+      {before after : List ℕ} {end junctions roads entries : ℕ} → number ≡ 0 → length before ≡ 65536 →
+      ReadU16 net 6 junctions → roads ≡ u32At net 8 → entries ≡ u32At s 8 → Put before 0 (headingLine junctions roads entries) 64 after end →
+      FirstLine net s depths starts heads nexts after 0 end
+  first-heading zero long read e f line =
+      record {
+        accepting = rw zero at accepting;
+        heading = λ z. line .put .holds ∙ (λ i. headingLine (read .is i) (e i) (f i));
+        refusal = λ some. absurd (some refl);
+        inside = omega (arith, line .short, line .put .one-length);
+        places = line .put .one-length ∙ long;
+      }
+
+-- the places of the check serve the replies
+pub places-lent :
+    {junctions marks nearTimes nearEnergies farTimes farEnergies : List ℕ} →
+    length junctions ≡ 1024 → length marks ≡ 1024 → ListRoom nearTimes nearEnergies × ListRoom farTimes farEnergies →
+    Places junctions marks nearTimes nearEnergies farTimes farEnergies
+places-lent j m room =
+    record {
+      junctions-places = j;
+      lent =
+          record {
+            marks-places = m;
+            near-times-places = room .0 .times-places;
+            near-energies-places = room .0 .energies-places;
+            far-times-places = room .1 .times-places;
+            far-energies-places = room .1 .energies-places;
+          };
+    }

@@ -1,0 +1,63 @@
+-- `replies::reply::reply_query`: an answer is a found pair, or it carries zeros beside its number.
+use native.Mathlib.Omega.{arith}
+use mathlib.Core.Path.{_≡_}
+use mathlib.Core.Logic.{_⊎_, ⊎-elim}
+use Prim.Native.Nat.{ℕ}
+use Rattle.replies.proofs.ReplyWays.{pair-or-refusal, found-zero, refusal-replied}
+use borrow.Author.Needs.{needs}
+use Rattle.replies.proofs.reply.reply_query.Statement.{statement}
+use Rattle.replies.proofs.reply.reply_query.Tie as tie
+
+answer-requires : tie.Need-answer-requires
+answer-requires c κs = search needs
+
+enum-known-found : tie.Need-enum-known-found
+enum-known-found c = search needs
+
+code-requires : tie.Need-code-requires
+code-requires c κs = search needs
+
+put-refused-line-requires : tie.Need-put-refused-line-requires
+put-refused-line-requires c κs = search needs
+
+same-length : tie.Need-same-length
+same-length c = search needs
+
+returns : tie.Need-returns
+returns c = 
+    (⊎-elim (λ w. absurd (found-key (rw (w .is) at (c .before .before .before .before .before .match .keys2))))
+    (λ w.
+    refusal-replied (c .before .before .before .before .before .before .answer .ensures .0) w (c .before .before .before .code .ensures)
+    (c .before .before .put-refused-line .ensures))
+    (pair-or-refusal (c .before .before .before .before .before .before .answer .result)),
+    search needs)
+  where
+    -- a found pair has key 0
+    found-key : (_≡_ {A = ℕ} 0 1) ⊎ ((_≡_ {A = ℕ} 0 2) ⊎ (_≡_ {A = ℕ} 0 3)) → ⊥
+    found-key k = ⊎-elim (λ e. omega arith) (⊎-elim (λ e. omega arith) (λ e. omega arith)) k
+
+put-found-requires : tie.Need-put-found-requires
+put-found-requires c κs = 
+    let answered = c .before .before .before .before .before .before .answer .ensures in
+    let held = c .before .before .before .before .before .before .before .before .before .before .before .before .before .before .before .pre in
+    (held .0, (found-zero (answered .0) (c .before .before .before .before .found .given .1), ((held .1 .0 .junctions-places, answered .1 .marks-places), held .1 .1)))
+
+same-length-2 : tie.Need-same-length-2
+same-length-2 c = search needs
+
+returns-2 : tie.Need-returns-2
+returns-2 c = (search needs, search needs)
+
+pub reply-query-spec : {M : Type 1} → statement M
+reply-query-spec =
+    tie.close
+    (tie.spec
+    answer-requires
+    enum-known-found
+    code-requires
+    put-refused-line-requires
+    same-length
+    returns
+    put-found-requires
+    same-length-2
+    returns-2)

@@ -1,0 +1,164 @@
+// The whole program, over two paths and two descriptors.
+use crate::begin::begin;
+use crate::fill::fill;
+ghost use mathlib.Core.Path.{_≡_};
+ghost use Prim.Native.Nat.{_≤_};
+ghost use lib.ListN.{length};
+ghost use Rattle.io.specs.Counts.{Counts};
+ghost use Rattle.exact.specs.Agreeing.{ListRoom};
+ghost use Rattle.replies.specs.Working.{Ready, Places};
+
+// How many bytes of the file stand in the buffer; none if it is longer than the buffer or cannot be read.
+fn read_file(path: &[u8], buffer: &mut [u8]) -> usize
+    ensures { λ r. ⌜ Counts r (now (buffer .exit)) ⌝ }
+{
+    let mut more: [u8; 1] = [0; 1];
+    let file = os::open_read(path);
+    if file < 0 {
+        return 0;
+    }
+    let count = io::read_full(file, buffer);
+    let rest = libc::read(file, &mut more);
+    libc::close(file);
+    if rest != 0 {
+        return 0;
+    }
+    count
+}
+
+// Writes the replies to every line, one filled buffer after another.
+fn print_replies(
+    net: &[u8],
+    labels: &[u8],
+    depths: &[u32; 1024],
+    starts: &[u32; 1024],
+    heads: &[u32; 1024],
+    nexts: &[u32; 8192],
+    input: &[u8],
+    output: i32,
+    out: &mut [u8],
+    junctions: &mut [u32; 1024],
+    marks: &mut [u8; 1024],
+    near_times: &mut [u32; 4096],
+    near_energies: &mut [u32; 4096],
+    far_times: &mut [u32; 4096],
+    far_energies: &mut [u32; 4096],
+)
+    requires { ⌜ Ready (now net) (now labels) (now depths) (now starts) (now heads) (now nexts) ⌝ }
+    requires { ⌜ Places (now junctions) (now marks) (now «near_times») (now «near_energies») (now «far_times») (now «far_energies») ⌝ }
+    requires { ⌜ (length (now input) ≤ 65536) × (length (now out) ≡ 65536) ⌝ }
+{
+    let mut next = 0;
+    while next < input.len() {
+        let filled = fill(
+            net,
+            labels,
+            depths,
+            starts,
+            heads,
+            nexts,
+            input,
+            next,
+            out,
+            junctions,
+            marks,
+            near_times,
+            near_energies,
+            far_times,
+            far_energies,
+        );
+        let used = filled.used;
+        io::write_all(output, &out[0..used]);
+        next = filled.next;
+    }
+}
+
+// Prints the first line and, on an accepted set, the replies to the first 65,536 bytes of the input.
+fn answer_input(
+    net: &[u8],
+    labels: &[u8],
+    input: i32,
+    output: i32,
+    depths: &mut [u32; 1024],
+    starts: &mut [u32; 1024],
+    heads: &mut [u32; 1024],
+    nexts: &mut [u32; 8192],
+    near_times: &mut [u32; 4096],
+    near_energies: &mut [u32; 4096],
+    far_times: &mut [u32; 4096],
+    far_energies: &mut [u32; 4096],
+)
+    requires { ⌜ (length (now depths) ≡ 1024) × (length (now starts) ≡ 1024) × (length (now heads) ≡ 1024) × (length (now nexts) ≡ 8192) ⌝ }
+    requires { ⌜ ListRoom (now «near_times») (now «near_energies») × ListRoom (now «far_times») (now «far_energies») ⌝ }
+{
+    let mut junctions: [u32; 1024] = [0; 1024];
+    let mut marks: [u8; 1024] = [0; 1024];
+    let mut text = io::large_buffer();
+    let mut out = io::large_buffer();
+    let begun = begin(
+        net,
+        labels,
+        depths,
+        starts,
+        heads,
+        nexts,
+        near_times,
+        near_energies,
+        far_times,
+        far_energies,
+        &mut out,
+    );
+    let used = begun.used;
+    io::write_all(output, &out[0..used]);
+    if begun.number != 0 {
+        return;
+    }
+    let count = io::read_full(input, &mut text);
+    print_replies(
+        net,
+        labels,
+        depths,
+        starts,
+        heads,
+        nexts,
+        &text[0..count],
+        output,
+        &mut out,
+        &mut junctions,
+        &mut marks,
+        near_times,
+        near_energies,
+        far_times,
+        far_energies,
+    );
+}
+
+// Answers the query lines of `input` on the two files.
+pub fn run(net_path: &[u8], labels_path: &[u8], input: i32, output: i32) {
+    let mut depths: [u32; 1024] = [0; 1024];
+    let mut starts: [u32; 1024] = [0; 1024];
+    let mut heads: [u32; 1024] = [0; 1024];
+    let mut nexts: [u32; 8192] = [0; 8192];
+    let mut near_times: [u32; 4096] = [0; 4096];
+    let mut near_energies: [u32; 4096] = [0; 4096];
+    let mut far_times: [u32; 4096] = [0; 4096];
+    let mut far_energies: [u32; 4096] = [0; 4096];
+    let mut net = io::large_buffer();
+    let mut list_bytes = io::large_buffer();
+    let net_length = read_file(net_path, &mut net);
+    let labels_length = read_file(labels_path, &mut list_bytes);
+    answer_input(
+        &net[0..net_length],
+        &list_bytes[0..labels_length],
+        input,
+        output,
+        &mut depths,
+        &mut starts,
+        &mut heads,
+        &mut nexts,
+        &mut near_times,
+        &mut near_energies,
+        &mut far_times,
+        &mut far_energies,
+    );
+}
