@@ -1,6 +1,5 @@
--- Why text is read and written as the definitions say.
-pub mod WritingLaws
--- Why lines and query lines are read as they are defined, and that no second reading meets a statement.
+-- Why lines and query lines are read, and text is written, as the definitions say; that no second reading meets a statement, and that
+-- what is printed for a number is read as that number.
 pub mod ByteKinds
 pub mod LineSteps
 pub mod LineParts

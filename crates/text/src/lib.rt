@@ -6,5 +6,5 @@ pub enum QueryLine {
     Bad,
 }
 
-pub mod write;
 pub mod read;
+pub mod write;
