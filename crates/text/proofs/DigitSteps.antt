@@ -2,11 +2,12 @@
 use mathlib.Core.Path.{_≡_, refl, sym, ap, _∙_}
 use mathlib.Core.List.{List, [], _∷_, _++_}
 use Prim.Native.Nat.{ℕ, _+_, _-_, _*_, _≤_, _<_}
-use native.Mathlib.Decide.{ℕ-discrete, decLe}
+use native.Mathlib.Decide.{decLe}
 use native.Mathlib.Omega.{arith}
 use lib.ListN.{length, getD}
 use Rattle.text.specs.Numbers.{zeroByte, valueAfter, IsDigit}
 use Rattle.text.specs.Reading.{mostNumber, Longer, Spelled, DigitsTo, DigitsRead}
+use Rattle.text.proofs.LineSteps.{between-more}
 use Rattle.text.proofs.LineParts.{line-empty, line-more}
 
 -- a digit more at the end of the bytes
@@ -58,16 +59,9 @@ module _ {input : List ℕ} {start : ℕ} where
         record {
           forward = omega arith;
           inside = omega arith;
-          digits = digits;
+          digits = between-more (λ i. IsDigit (getD input i 0)) (so-far .digits) is;
           spelled = spelled-more (getD input to 0) (so-far .spelled) longer e (line-more input start to (so-far .forward) below);
         }
-      where
-        digits : (i : ℕ) → start ≤ i → i < to + 1 → IsDigit (getD input i 0)
-        digits i a b = pick (ℕ-discrete i to)
-          where
-            pick : Dec (i ≡ to) → IsDigit (getD input i 0)
-            pick (yes f) = rw f is
-            pick (no n) = so-far .digits i a (omega arith)
 
     pub digits-stop : {end : ℕ} → to ≤ end → (to < end → IsDigit (getD input to 0) → ⊥) → DigitsRead input start end value to
     digits-stop h stop =

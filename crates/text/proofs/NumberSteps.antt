@@ -3,7 +3,6 @@ use mathlib.Core.Path.{_≡_, refl, sym, ap, _∙_, subst}
 use mathlib.Core.Logic.{_⊎_, inl, inr}
 use mathlib.Core.List.{List, [], _∷_, List·Memᴰ, List·Memᴰ·head, List·Memᴰ·tail, List·Memᴰ·not-nil, List·Memᴰ·cases-cons}
 use Prim.Native.Nat.{ℕ, zero, suc, _+_, _-_, _≤_, _<_}
-use native.Mathlib.Decide.{decLt}
 use native.Mathlib.Omega.{arith}
 use lib.ListN.{length, getD}
 use Rattle.text.specs.Numbers.{zeroByte, IsDigit, IsNumeral}
@@ -25,12 +24,7 @@ module _ {input : List ℕ} {start end : ℕ} where
   not-shorter {a} p q h = p .stops (omega arith) (q .digits a (p .forward) h)
 
   pub run-unique : {a b : ℕ} → DigitRun input start end a → DigitRun input start end b → a ≡ b
-  run-unique {a} {b} p q = pick (decLt a b) (decLt b a)
-    where
-      pick : Dec (a < b) → Dec (b < a) → a ≡ b
-      pick (yes h) d = absurd (not-shorter p q h)
-      pick (no h) (yes k) = absurd (not-shorter q p k)
-      pick (no h) (no k) = omega arith
+  run-unique p q = omega (arith, not-shorter p q, not-shorter q p)
 
   -- the numeral of the same digits, where they are known to end
   numeral-moved : {a next next′ : ℕ} → DigitRun input start end next′ → NumberAt input start end a next → IsNumeral (lineOf input start next′) a

@@ -2,7 +2,6 @@
 use mathlib.Core.Path.{_≡_, sym, _∙_}
 use mathlib.Core.List.{List}
 use Prim.Native.Nat.{ℕ, _<_}
-use native.Mathlib.Decide.{decLt}
 use native.Mathlib.Omega.{arith}
 use lib.ListN.{length}
 use Rattle.text.specs.Lines.{LineEnds}
@@ -19,12 +18,7 @@ module _ {input : List ℕ} {start : ℕ} where
 
   -- No second end meets the statement of a line's end
   pub line-end-unique : {e e′ : ℕ} → LineEnds input start e → LineEnds input start e′ → e ≡ e′
-  line-end-unique {e} {e′} p q = pick (decLt e e′) (decLt e′ e)
-    where
-      pick : Dec (e < e′) → Dec (e′ < e) → e ≡ e′
-      pick (yes h) d = absurd (no-later p q h)
-      pick (no h) (yes k) = absurd (no-later q p k)
-      pick (no h) (no k) = omega arith
+  line-end-unique p q = omega (arith, no-later p q, no-later q p)
 
 pub record SameQuery (s t C s′ t′ C′ : ℕ) : Type 0 where
   pub same-s : s ≡ s′
