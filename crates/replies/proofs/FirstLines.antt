@@ -7,7 +7,7 @@ use lib.ListN.{length, take}
 use Rattle.network.specs.Bytes.{u32At}
 use Rattle.network.specs.Reads.{ReadU16}
 use Rattle.network.specs.NetworkFile.{junctionsOf, roadsOf}
-use Rattle.files.specs.LabelFile.{entriesOf}
+use Rattle.forest.specs.LabelFile.{entriesOf}
 use Rattle.exact.specs.Agreeing.{ListRoom}
 use Rattle.labels.specs.Working.{Accepting}
 use Rattle.labels.proofs.Accepted.{ready-for-queries}

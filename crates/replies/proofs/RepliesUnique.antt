@@ -13,7 +13,7 @@ use Rattle.paths.specs.Weights.{pair}
 use Rattle.paths.specs.Route.{FirstRoute}
 use Rattle.paths.proofs.Route.{firstRoute-unique}
 use Rattle.network.specs.NetworkFile.{networkOf, junctionsOf, roadsOf}
-use Rattle.files.specs.LabelFile.{entriesOf}
+use Rattle.forest.specs.LabelFile.{entriesOf}
 use Rattle.query.specs.Answers.{Answers}
 use Rattle.query.proofs.AnswersUnique.{SameAnswer, answers-unique}
 use Rattle.labels.specs.Check.{Checked}

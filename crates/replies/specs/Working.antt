@@ -8,7 +8,7 @@ use Rattle.text.specs.Queries.{IsQuery}
 use Rattle.text.specs.Writing.{Appended}
 use Rattle.network.specs.NetworkFile.{junctionsOf, roadsOf}
 use Rattle.network.specs.Roads.{Grouped}
-use Rattle.files.specs.LabelFile.{entriesOf}
+use Rattle.forest.specs.LabelFile.{entriesOf}
 use Rattle.query.specs.Prepared.{Prepared, Lent}
 use Rattle.labels.specs.Working.{Accepting}
 use Rattle.replies.specs.Lines.{_␣_, headingLine, refusedLine}
