@@ -3,8 +3,6 @@ use labels::ListAnswer;
 use labels::RouteAnswer;
 use libc::STDOUT_FILENO;
 ghost use Rattle.io.specs.Counts.{Counts};
-ghost use mathlib.Core.Path.{_≡_};
-ghost use lib.ListN.{length};
 
 // How many bytes of the file stand at the start of the buffer; none if it cannot be read.
 fn read_file(path: &[u8; 5], buffer: &mut [u8]) -> usize
@@ -28,9 +26,9 @@ fn print(x: u32) {
     io::print_decimal(STDOUT_FILENO, wide(x));
 }
 
-fn print_all(places: &[u32]) {
+fn print_all(places: &[u32; 6]) {
     let mut i = 0;
-    while i < places.len() {
+    while i < 6 {
         print(places[i]);
         i += 1;
     }
@@ -66,10 +64,10 @@ fn print_list(answer: ListAnswer) {
     }
 }
 
-// A route with some of four places lent.
+// A route with some of six places lent.
 fn route(net: &[u8], labels: &[u8], s: u32, t: u32, limit: u32, room: usize) {
-    let mut places: [u32; 5] = [9999; 5];
-    if room > 5 {
+    let mut places: [u32; 6] = [9999; 6];
+    if room > 6 {
         return;
     }
     io::write_all(STDOUT_FILENO, b"route");
@@ -83,11 +81,11 @@ fn route(net: &[u8], labels: &[u8], s: u32, t: u32, limit: u32, room: usize) {
     print_all(&places);
 }
 
-// A list with some of four places lent in each slice.
+// A list with some of six places lent for the times, and all for the energies.
 fn list(net: &[u8], labels: &[u8], s: u32, t: u32, room: usize) {
-    let mut times: [u32; 4] = [9999; 4];
-    let mut energies: [u32; 4] = [9999; 4];
-    if room > 4 {
+    let mut times: [u32; 6] = [9999; 6];
+    let mut energies: [u32; 6] = [9999; 6];
+    if room > 6 {
         return;
     }
     io::write_all(STDOUT_FILENO, b"list");
@@ -120,6 +118,7 @@ fn edges(net: &[u8], labels: &[u8]) {
     route(net, labels, 0, 0, 0, 0);
     route(net, labels, 9, 9, 0, 5);
     route(net, labels, 0, 4294967295, 9, 5);
+    route(net, labels, 0, 1, 5, 5);
     route(net, labels, 0, 3, 7, 3);
     route(net, labels, 0, 3, 7, 4);
     list(net, labels, 0, 3, 3);
@@ -129,14 +128,20 @@ fn edges(net: &[u8], labels: &[u8]) {
     list(net, labels, 0, 5, 4);
 }
 
-fn batch(net: &[u8], labels: &[u8]) {
-    let queries: [u32; 12] = [0, 3, 7, 0, 3, 2, 0, 3, 9, 9, 0, 4];
-    let mut answers: [u32; 12] = [9999; 12];
-    let number = labels::batch(net, labels, &queries, &mut answers);
+fn batch(net: &[u8], labels: &[u8], queries: &[u32; 6]) {
+    let mut answers: [u32; 6] = [9999; 6];
+    let number = labels::batch(net, labels, queries, &mut answers);
     io::write_all(STDOUT_FILENO, b"batch:");
     print(number);
     io::write_all(STDOUT_FILENO, b" |");
     print_all(&answers);
+}
+
+// A refused triple beside an answered one, both ways round, and one triple twice.
+fn batches(net: &[u8], labels: &[u8]) {
+    batch(net, labels, &[0, 3, 2, 0, 3, 7]);
+    batch(net, labels, &[0, 3, 9, 9, 0, 4]);
+    batch(net, labels, &[0, 2, 5, 0, 2, 5]);
 }
 
 fn run(name: u8) {
@@ -153,7 +158,7 @@ fn run(name: u8) {
     io::write_all(STDOUT_FILENO, b"\n");
     limits(network, labels);
     edges(network, labels);
-    batch(network, labels);
+    batches(network, labels);
 }
 
 // Network A, the square, two parts, one junction, two junctions without roads, and A without (6,3), E made 13 and left 14.

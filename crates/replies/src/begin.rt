@@ -47,8 +47,14 @@ pub fn begin(
     );
     if number != 0 {
         let refused = put_refused(out, number);
-        return Begun { number: number, used: refused };
+        return Begun {
+            number: number,
+            used: refused,
+        };
     }
     let heading = put_heading(out, u16_at(net, 6), u32_at(net, 8), u32_at(labels, 8));
-    Begun { number: 0, used: heading }
+    Begun {
+        number: 0,
+        used: heading,
+    }
 }

@@ -37,7 +37,10 @@ pub fn fill(
     let mut used: usize = 0;
     while next < input.len() {
         if used > 53248 {
-            return Filled { next: next, used: used };
+            return Filled {
+                next: next,
+                used: used,
+            };
         }
         let end = line_end(input, next);
         used = reply(
@@ -61,5 +64,8 @@ pub fn fill(
         );
         next = end + 1;
     }
-    Filled { next: next, used: used }
+    Filled {
+        next: next,
+        used: used,
+    }
 }

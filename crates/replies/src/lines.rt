@@ -64,14 +64,7 @@ fn put_words(
 }
 
 // The line of a query without an answer: its number, zeros, and no route.
-pub fn put_refused_line(
-    out: &mut [u8],
-    at: usize,
-    s: u32,
-    t: u32,
-    limit: u32,
-    number: u32,
-) -> usize
+pub fn put_refused_line(out: &mut [u8], at: usize, s: u32, t: u32, limit: u32, number: u32) -> usize
     requires { ⌜ at + 68 ≤ length (now out) ⌝ }
     ensures { λ r. ⌜ Put (now (out .entry)) at (answerLine s t limit number 0 0 noRoute) 68 (now (out .exit)) r ⌝ }
 {

@@ -33,7 +33,7 @@ same-length : tie.Need-same-length
 same-length c = search needs
 
 returns : tie.Need-returns
-returns c = 
+returns c =
     let last = c .before .before in
     let number = last .before .before .before .before in
     let name = number .before .before .before .before in

@@ -26,7 +26,7 @@ same-length : tie.Need-same-length
 same-length c = search needs
 
 returns : tie.Need-returns
-returns c = 
+returns c =
     let sixth = c .before .before in
     let fifth = sixth .before .before .before .before in
     let fourth = fifth .before .before .before .before in

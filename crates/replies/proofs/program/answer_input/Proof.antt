@@ -53,11 +53,12 @@ slice-aggregate-print-replies : tie.Need-slice-aggregate-print-replies
 slice-aggregate-print-replies c = search needs
 
 print-replies-requires : tie.Need-print-replies-requires
-print-replies-requires c κs = 
+print-replies-requires c κs =
     let refusals = c .before .before .before .before .before .before .before .before .before .before .before .before .before .before .before .before in
-    let begun = refusals .before .before .before .before .before .before .begin .ensures in
-    (ready (begun .0 .accepting) (refusals .if1 .left),
-    (places-lent (length-replicate {A = ℕ} 1024 0) (length-replicate {A = ℕ} 1024 0) (begun .1), (simp length-take (omega arith), begun .0 .places)))
+    let begun = refusals .before .before .before .before .before .before .begin .ensures in (
+      ready (begun .0 .accepting) (refusals .if1 .left),
+      (places-lent (length-replicate {A = ℕ} 1024 0) (length-replicate {A = ℕ} 1024 0) (begun .1), (simp length-take (omega arith), begun .0 .places)),
+    )
 
 returns-2 : tie.Need-returns-2
 returns-2 c = search needs

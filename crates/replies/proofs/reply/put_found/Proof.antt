@@ -6,13 +6,13 @@ use Rattle.replies.proofs.reply.put_found.Statement.{statement}
 use Rattle.replies.proofs.reply.put_found.Tie as tie
 
 route-requires : tie.Need-route-requires
-route-requires c κs = 
+route-requires c κs =
     let held = c .before .before .before .before .before .pre in
     let found = found-pair (held .1 .0) in
     (held .0 .prepared, (held .0 .grouped, ((found .s-on-map, found .t-on-map), (found .unbeaten, held .1 .1 .0))))
 
 put-found-line-requires : tie.Need-put-found-line-requires
-put-found-line-requires c κs = 
+put-found-line-requires c κs =
     let route = c .before .before .route .ensures in
     let sized = route-sized (route .0) in
     ((sized .some, omega (arith, sized .few, route .1 .0), route .1 .0), c .before .before .before .before .before .before .before .before .pre .1 .1 .1)

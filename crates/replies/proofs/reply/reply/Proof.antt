@@ -24,18 +24,19 @@ same-length : tie.Need-same-length
 same-length c = search needs
 
 returns : tie.Need-returns
-returns c = 
-    (⊎-elim (λ w. absurd (query-key (rw (w .is) at (c .before .before .before .before .before .match .keys2))))
-    (λ w. bad-replied w (c .before .before .put-bad-line .ensures))
-    (query-or-bad (c .before .before .before .before .before .before .read-query .ensures)),
-    search needs)
+returns c = (
+  ⊎-elim (λ w. absurd (query-key (rw (w .is) at (c .before .before .before .before .before .match .keys2))))
+      (λ w. bad-replied w (c .before .before .put-bad-line .ensures))
+      (query-or-bad (c .before .before .before .before .before .before .read-query .ensures)),
+  search needs,
+)
   where
     -- a query has key 0
     query-key : _≡_ {A = ℕ} 0 1 → ⊥
     query-key k = omega arith
 
 reply-query-requires : tie.Need-reply-query-requires
-reply-query-requires c κs = 
+reply-query-requires c κs =
     let held = c .before .before .before .before .before .before .before .before .before .before .before .before .before .before .before .pre in
     (held .0, (held .1 .0, held .1 .1 .1))
 

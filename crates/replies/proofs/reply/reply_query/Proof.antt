@@ -24,20 +24,21 @@ same-length : tie.Need-same-length
 same-length c = search needs
 
 returns : tie.Need-returns
-returns c = 
-    (⊎-elim (λ w. absurd (found-key (rw (w .is) at (c .before .before .before .before .before .match .keys2))))
-    (λ w.
-    refusal-replied (c .before .before .before .before .before .before .answer .ensures .0) w (c .before .before .before .code .ensures)
-    (c .before .before .put-refused-line .ensures))
-    (pair-or-refusal (c .before .before .before .before .before .before .answer .result)),
-    search needs)
+returns c = (
+  ⊎-elim (λ w. absurd (found-key (rw (w .is) at (c .before .before .before .before .before .match .keys2))))
+      (λ w.
+      refusal-replied (c .before .before .before .before .before .before .answer .ensures .0) w (c .before .before .before .code .ensures)
+      (c .before .before .put-refused-line .ensures))
+      (pair-or-refusal (c .before .before .before .before .before .before .answer .result)),
+  search needs,
+)
   where
     -- a found pair has key 0
     found-key : (_≡_ {A = ℕ} 0 1) ⊎ ((_≡_ {A = ℕ} 0 2) ⊎ (_≡_ {A = ℕ} 0 3)) → ⊥
     found-key k = ⊎-elim (λ e. omega arith) (⊎-elim (λ e. omega arith) (λ e. omega arith)) k
 
 put-found-requires : tie.Need-put-found-requires
-put-found-requires c κs = 
+put-found-requires c κs =
     let answered = c .before .before .before .before .before .before .answer .ensures in
     let held = c .before .before .before .before .before .before .before .before .before .before .before .before .before .before .before .pre in
     (held .0, (found-zero (answered .0) (c .before .before .before .before .found .given .1), ((held .1 .0 .junctions-places, answered .1 .marks-places), held .1 .1)))
