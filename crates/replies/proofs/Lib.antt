@@ -3,4 +3,5 @@ pub mod LineLaws
 pub mod ReplyWays
 pub mod FirstLines
 pub mod FillSteps
+pub mod PrintedParts
 pub mod RepliesUnique

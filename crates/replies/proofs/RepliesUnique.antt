@@ -1,7 +1,7 @@
 -- The program can print one text alone.
 -- In this order: one reply per line; where lines start; the replies to all lines; the whole.
 use mathlib.Core.Path.{_≡_, refl, sym, ap, _∙_}
-use mathlib.Core.List.{List, [], _∷_, _++_, append-assoc, append-nil}
+use mathlib.Core.List.{List, [], _∷_, _++_}
 use Prim.Native.Nat.{ℕ, suc, _+_, _-_, _≤_, _<_}
 use native.Mathlib.Decide.{decLt}
 use native.Mathlib.Omega.{arith}
@@ -117,12 +117,6 @@ module _ {net input : List ℕ} {from : ℕ} where
       pick (yes l) d = absurd (no-sooner ends ends′ left′ h l)
       pick (no l) (yes m) = absurd (no-sooner ends′ ends left k m)
       pick (no l) (no m) = omega arith
-
--- what is printed in parts is printed whole
-pub replies-then :
-    {net input : List ℕ} {from next end : ℕ} {x y : List ℕ} → Replies net input from next x → Replies net input next end y → Replies net input from end (x ++ y)
-replies-then {x = x} p none = rw append-nil p
-replies-then {x = x} p (more {bytes = y} {reply = r} q left ends reply) = rw (← append-assoc x y r) (more (replies-then p q) left ends reply)
 
 -- ---- The whole
 
