@@ -1,13 +1,11 @@
 -- The first line: the heading of an accepted set, or the refusal.
-use mathlib.Core.Path.{_≡_, refl, sym, ap, _∙_}
-use mathlib.Core.List.{List, [], _++_}
-use Prim.Native.Nat.{ℕ, _+_, _≤_, _<_}
+use mathlib.Core.Path.{_≡_, refl, _∙_}
+use mathlib.Core.List.{List}
+use Prim.Native.Nat.{ℕ, _≤_}
 use native.Mathlib.Omega.{arith}
-use lib.ListN.{length, take}
+use lib.ListN.{length}
 use Rattle.network.specs.Bytes.{u32At}
 use Rattle.network.specs.Reads.{ReadU16}
-use Rattle.network.specs.NetworkFile.{junctionsOf, roadsOf}
-use Rattle.forest.specs.LabelFile.{entriesOf}
 use Rattle.exact.specs.Agreeing.{ListRoom}
 use Rattle.labels.specs.Working.{Accepting}
 use Rattle.labels.proofs.Accepted.{ready-for-queries}

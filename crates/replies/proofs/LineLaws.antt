@@ -5,13 +5,13 @@ use mathlib.Core.List.{List, [], _∷_, _++_, append-assoc, append-nil}
 use Prim.Native.Nat.{ℕ, zero, suc, _+_, _-_, _*_, _≤_, _<_}
 use native.Mathlib.Numerals.{add-one}
 use native.Mathlib.Omega.{arith}
-use lib.ListN.{length, getD, take, drop, length-append}
+use lib.ListN.{length, getD, take, drop}
 use lib.Seq.{take-suc, length-take-le, drop-append-le}
-use Rattle.text.specs.Numbers.{numeral, digitsBefore, spaceByte}
+use Rattle.text.specs.Numbers.{numeral, spaceByte}
 use Rattle.text.specs.Lines.{newlineByte}
 use Rattle.text.specs.Writing.{Appended}
 use Rattle.text.proofs.WritingLaws.{appended-none, appended-then, numeral-length}
-use Rattle.replies.specs.Lines.{hyphenByte, hyphensThen, hyphened, noRoute, ended, _␣_, answerLine, badLine, networkWord, labelsWord, refusedWord, headingLine, refusedLine}
+use Rattle.replies.specs.Lines.{hyphenByte, hyphensThen, hyphened, noRoute, ended, _␣_, answerLine, networkWord, labelsWord, refusedWord, headingLine, refusedLine}
 use Rattle.replies.specs.Working.{Put, word, answerWords}
 
 -- ---- Text of bounded length

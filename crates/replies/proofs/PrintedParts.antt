@@ -1,11 +1,8 @@
 -- What is written part by part is what is printed: the first line, then one filled buffer after another.
-use mathlib.Core.Path.{_≡_, refl, sym, ap, _∙_}
+use mathlib.Core.Path.{_≡_, ap}
 use mathlib.Core.List.{List, _++_, append-assoc, append-nil}
 use Prim.Native.Nat.{ℕ, _≤_}
 use lib.ListN.{length, take}
-use Rattle.network.specs.NetworkFile.{junctionsOf, roadsOf}
-use Rattle.files.specs.LabelFile.{entriesOf}
-use Rattle.replies.specs.Lines.{headingLine}
 use Rattle.replies.specs.Printed.{Replies, none, more, Printed}
 use Rattle.replies.specs.Printed as printed
 use Rattle.replies.specs.Working.{FirstLine, FilledTo}

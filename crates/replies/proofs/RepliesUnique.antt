@@ -1,13 +1,12 @@
 -- The program can print one text alone.
 -- In this order: one reply per line; where lines start; the replies to all lines; the whole.
 use mathlib.Core.Path.{_≡_, refl, sym, ap, _∙_}
-use mathlib.Core.List.{List, [], _∷_, _++_}
+use mathlib.Core.List.{List, _++_}
 use Prim.Native.Nat.{ℕ, suc, _+_, _-_, _≤_, _<_}
 use native.Mathlib.Decide.{decLt}
 use native.Mathlib.Omega.{arith}
 use lib.ListN.{length, getD}
-use Rattle.text.specs.Lines.{LineEnds, lineOf, newlineByte}
-use Rattle.text.specs.Queries.{IsQuery}
+use Rattle.text.specs.Lines.{LineEnds, newlineByte}
 use Rattle.text.proofs.ReadingUnique.{SameQuery, query-unique}
 use Rattle.paths.specs.Weights.{pair}
 use Rattle.paths.specs.Route.{FirstRoute}
@@ -16,9 +15,8 @@ use Rattle.network.specs.NetworkFile.{networkOf, junctionsOf, roadsOf}
 use Rattle.forest.specs.LabelFile.{entriesOf}
 use Rattle.query.specs.Answers.{Answers}
 use Rattle.query.proofs.AnswersUnique.{SameAnswer, answers-unique}
-use Rattle.labels.specs.Check.{Checked}
 use Rattle.labels.proofs.CheckUnique.{check-unique}
-use Rattle.replies.specs.Lines.{answerLine, hyphened, noRoute, headingLine, refusedLine}
+use Rattle.replies.specs.Lines.{headingLine, refusedLine}
 use Rattle.replies.specs.Reply.{Reply, bad, refused, answered}
 use Rattle.replies.specs.Printed.{Replies, none, more, Printed}
 use Rattle.replies.specs.Printed as printed

@@ -1,8 +1,8 @@
 -- The ways through a reply: a bad line, a query without an answer, a found pair with its route.
 use mathlib.Core.Path.{_≡_, refl, sym, ap, _∙_}
-use mathlib.Core.Logic.{_⊎_, inl, inr, ⊎-elim}
-use mathlib.Core.List.{List, [], _∷_}
-use Prim.Native.Nat.{ℕ, zero, suc, _+_, _≤_, _<_}
+use mathlib.Core.Logic.{_⊎_, inl, inr}
+use mathlib.Core.List.{List}
+use Prim.Native.Nat.{ℕ, zero, suc, _≤_, _<_}
 use native.Mathlib.Omega.{arith}
 use lib.ListN.{length, take}
 use Rattle.text.specs.Queries.{IsQuery, BadLine, QueryRead, query, bad}
@@ -10,10 +10,9 @@ use Rattle.text.specs.declared.QueryLine.{QueryLine}
 use Rattle.text.specs.declared.QueryLine.the-variants as line
 use Rattle.paths.specs.declared.seconds.Seconds.{Seconds}
 use Rattle.paths.specs.declared.energy.Energy.{Energy}
-use Rattle.paths.specs.Weights.{pair, energy}
+use Rattle.paths.specs.Weights.{pair}
 use Rattle.paths.specs.TradeOff.{Skyline}
-use Rattle.paths.specs.Network.{Network, Walk, stay, go, junctions}
-use Rattle.paths.specs.Answer.{Best}
+use Rattle.paths.specs.Network.{Walk, stay, go, junctions}
 use Rattle.paths.proofs.Answers.{best-is-skyline}
 use Rattle.paths.proofs.Figures.{number-lawful}
 use Rattle.network.specs.NetworkFile.{networkOf, junctionsOf}
@@ -22,7 +21,6 @@ use Rattle.query.specs.declared.Answer.the-variants as case
 use Rattle.query.specs.Answers.{Answers, numberOf, timeOf, energyOf, off-map, not-connected, over-limit, found}
 use Rattle.routes.specs.Written.{RouteFound}
 use Rattle.replies.specs.Lines.{answerLine, badLine, hyphened, noRoute}
-use Rattle.replies.specs.Reply.{Reply}
 use Rattle.replies.specs.Reply as reply
 use Rattle.replies.specs.Working.{Put, QueryReplied, Replied}
 

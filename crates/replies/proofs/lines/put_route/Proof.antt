@@ -1,8 +1,6 @@
 -- `replies::lines::put_route` puts junction after junction: each turn is `route-more`.
 use Prim.Native.Nat.{_≤_, _-_}
-use lib.ListN.{length}
 use native.Mathlib.Omega.{arith}
-use mathlib.Core.Path.{_≡_}
 use Rattle.replies.proofs.LineLaws.{RoutePut, route-start, route-more, route-room, route-whole}
 use borrow.Author.Needs.{needs}
 use Rattle.replies.proofs.lines.put_route.Statement.{statement}

@@ -1,6 +1,5 @@
 -- `text::write::put_bytes` copies byte after byte: each turn is `one-copied`.
 use Prim.Native.Nat.{_-_}
-use native.Mathlib.Omega.{arith}
 use lib.ListN.{length}
 use Rattle.text.proofs.WritingLaws.{Copied, none-copied, one-copied, all-copied}
 use borrow.Author.Needs.{needs}
