@@ -11,16 +11,16 @@ use Rattle.paths.specs.declared.seconds.Seconds.{Seconds}
 use Rattle.paths.specs.declared.energy.Energy.{Energy}
 use Rattle.query.specs.declared.Answer.{Answer}
 use Rattle.query.specs.declared.Answer.the-variants as case
-use Rattle.query.specs.Answers.{Answers, timeOf, energyOf}
+use Rattle.query.specs.Answers.{Answers, numberOf, timeOf, energyOf}
 use Rattle.labels.specs.Batch.{TripleAnswered}
 use Rattle.labels.specs.Working.{putTriple, AnsweredTo, Triples}
 
--- an answer is a found pair, or it carries zeros
-pub pair-or-zeros : (a : Answer) → ((time : Seconds) × (units : Energy) × (a ≡ case.Found time units)) ⊎ ((timeOf a ≡ 0) × (energyOf a ≡ 0))
+-- an answer is a found pair, or it carries zeros beside its number
+pub pair-or-zeros : (a : Answer) → ((time : Seconds) × (units : Energy) × (a ≡ case.Found time units)) ⊎ ((timeOf a ≡ 0) × (energyOf a ≡ 0) × (numberOf a ≡ 0 → ⊥))
 pair-or-zeros (case.Found time units) = inl (time, units, refl)
-pair-or-zeros case.OffMap = inr (refl, refl)
-pair-or-zeros case.NotConnected = inr (refl, refl)
-pair-or-zeros case.OverLimit = inr (refl, refl)
+pair-or-zeros case.OffMap = inr (refl, refl, λ e. omega arith)
+pair-or-zeros case.NotConnected = inr (refl, refl, λ e. omega arith)
+pair-or-zeros case.OverLimit = inr (refl, refl, λ e. omega arith)
 
 -- what stands in the three places, and elsewhere
 module _ (places : List ℕ) (at a b c : ℕ) (room : at + 2 < length places) where

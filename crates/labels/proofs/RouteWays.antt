@@ -30,14 +30,14 @@ pub record FoundPair (net : List ℕ) (x y C time units : ℕ) : Type 0 where
   pub finish-on-map : y < junctionsOf net
   pub best : Best (networkOf net) x y C (pair time units)
 
-answered-zero : {net : List ℕ} {x y C time units : ℕ} → Answers net x y C 0 time units → FoundPair net x y C time units
+pub answered-zero : {net : List ℕ} {x y C time units : ℕ} → Answers net x y C 0 time units → FoundPair net x y C time units
 answered-zero (off-map o n t u) = absurd (omega arith)
 answered-zero (not-connected a b w n t u) = absurd (omega arith)
 answered-zero (over-limit a b w n t u) = absurd (omega arith)
 answered-zero (found a b best n) = record { start-on-map = a; finish-on-map = b; best = best }
 
 module _ {net : List ℕ} {x y C : ℕ} {a : Answer} where
-  found-zero :
+  pub found-zero :
       {time : Seconds} {units : Energy} → a ≡ case.Found time units → Answers net x y C (numberOf a) (timeOf a) (energyOf a) → Answers net x y C 0 (time .0) (units .0)
   found-zero e answers = rw e at answers
 

@@ -2,41 +2,22 @@
 use mathlib.Core.Path.{_≡_, refl, sym, ap, _∙_}
 use mathlib.Core.Logic.{_⊎_, inl, inr}
 use mathlib.Core.List.{List}
-use Prim.Native.Nat.{ℕ, zero, suc, _≤_, _<_}
+use Prim.Native.Nat.{ℕ, zero, suc, _≤_}
 use native.Mathlib.Omega.{arith}
 use lib.ListN.{length, take}
 use Rattle.text.specs.Queries.{IsQuery, BadLine, QueryRead, query, bad}
 use Rattle.text.specs.declared.QueryLine.{QueryLine}
 use Rattle.text.specs.declared.QueryLine.the-variants as line
-use Rattle.paths.specs.declared.seconds.Seconds.{Seconds}
-use Rattle.paths.specs.declared.energy.Energy.{Energy}
 use Rattle.paths.specs.Weights.{pair}
-use Rattle.paths.specs.TradeOff.{Skyline}
 use Rattle.paths.specs.Network.{Walk, stay, go, junctions}
-use Rattle.paths.proofs.Answers.{best-is-skyline}
-use Rattle.paths.proofs.Figures.{number-lawful}
-use Rattle.network.specs.NetworkFile.{networkOf, junctionsOf}
-use Rattle.query.specs.declared.Answer.{Answer}
-use Rattle.query.specs.declared.Answer.the-variants as case
-use Rattle.query.specs.Answers.{Answers, numberOf, timeOf, energyOf, off-map, not-connected, over-limit, found}
+use Rattle.network.specs.NetworkFile.{networkOf}
+use Rattle.query.specs.Answers.{Answers}
 use Rattle.routes.specs.Written.{RouteFound}
 use Rattle.replies.specs.Lines.{answerLine, badLine, hyphened, noRoute}
 use Rattle.replies.specs.Reply as reply
 use Rattle.replies.specs.Working.{Put, QueryReplied, Replied}
 
--- ---- A found pair
-
-pub record FoundPair (net : List ℕ) (s t time units : ℕ) : Type 0 where
-  pub s-on-map : s < junctionsOf net
-  pub t-on-map : t < junctionsOf net
-  pub unbeaten : Skyline (networkOf net) s t (pair time units)
-
--- number 0 is given to a best pair alone, which nothing beats
-pub found-pair : {net : List ℕ} {s t C time units : ℕ} → Answers net s t C 0 time units → FoundPair net s t time units
-found-pair (off-map o n u v) = absurd (omega arith)
-found-pair (not-connected h k none n u v) = absurd (omega arith)
-found-pair (over-limit h k out n u v) = absurd (omega arith)
-found-pair (found h k best n) = record { s-on-map = h; t-on-map = k; unbeaten = best-is-skyline number-lawful best }
+-- ---- A route
 
 -- a walk meets a junction
 some-junction : {net : List ℕ} {s t : ℕ} (w : Walk (networkOf net) s t) → 1 ≤ length (junctions w)
@@ -107,29 +88,9 @@ query-or-bad (bad n e) = inr n
 
 -- ---- What was answered
 
--- an answer is a found pair, or it carries zeros beside a number
-pub record FoundIn (a : Answer) : Type 0 where
-  pub time : Seconds
-  pub units : Energy
-  pub is : a ≡ case.Found time units
-
-pub record Refusal (a : Answer) : Type 0 where
-  pub some-number : numberOf a ≡ 0 → ⊥
-  pub no-time : timeOf a ≡ 0
-  pub no-energy : energyOf a ≡ 0
-
-pub pair-or-refusal : (a : Answer) → FoundIn a ⊎ Refusal a
-pair-or-refusal (case.Found time units) = inl (record { time = time; units = units; is = refl })
-pair-or-refusal case.OffMap = inr (record { some-number = λ e. omega arith; no-time = refl; no-energy = refl })
-pair-or-refusal case.NotConnected = inr (record { some-number = λ e. omega arith; no-time = refl; no-energy = refl })
-pair-or-refusal case.OverLimit = inr (record { some-number = λ e. omega arith; no-time = refl; no-energy = refl })
-
-module _ {net : List ℕ} {s t C : ℕ} {a : Answer} (answers : Answers net s t C (numberOf a) (timeOf a) (energyOf a)) where
-  pub found-zero : {time : Seconds} {units : Energy} → a ≡ case.Found time units → Answers net s t C 0 (time .0) (units .0)
-  found-zero e = rw e at answers
-
-  pub refusal-replied :
-      {before after : List ℕ} {at end number : ℕ} → Refusal a → number ≡ numberOf a →
-      Put before at (answerLine s t C number 0 0 noRoute) 68 after end → QueryReplied net s t C before at after end
-  refusal-replied refusal e line =
-      refused-replied (rw e (rw (refusal .no-time, refusal .no-energy) at answers)) (λ z. refusal .some-number (sym e ∙ z)) line
+-- an answer other than a found pair carries zeros beside its number
+pub refusal-replied :
+    {net before after : List ℕ} {s t C at end code number time units : ℕ} →
+    Answers net s t C number time units → (time ≡ 0) × (units ≡ 0) × (number ≡ 0 → ⊥) → code ≡ number →
+    Put before at (answerLine s t C code 0 0 noRoute) 68 after end → QueryReplied net s t C before at after end
+refusal-replied answers zeros e line = refused-replied (rw e (rw (zeros .0, zeros .1) at answers)) (λ z. zeros .2 (sym e ∙ z)) line

@@ -1,6 +1,7 @@
 -- `replies::reply::put_found`: the pair of an answer is unbeaten, so it has a first route, which the line holds.
 use native.Mathlib.Omega.{arith}
-use Rattle.replies.proofs.ReplyWays.{found-pair, route-sized, found-replied}
+use Rattle.labels.proofs.RouteWays.{answered-zero, found-skyline}
+use Rattle.replies.proofs.ReplyWays.{route-sized, found-replied}
 use borrow.Author.Needs.{needs}
 use Rattle.replies.proofs.reply.put_found.Statement.{statement}
 use Rattle.replies.proofs.reply.put_found.Tie as tie
@@ -8,8 +9,8 @@ use Rattle.replies.proofs.reply.put_found.Tie as tie
 route-requires : tie.Need-route-requires
 route-requires c κs =
     let held = c .before .before .before .before .before .pre in
-    let found = found-pair (held .1 .0) in
-    (held .0 .prepared, (held .0 .grouped, ((found .s-on-map, found .t-on-map), (found .unbeaten, held .1 .1 .0))))
+    let found = answered-zero (held .1 .0) in
+    (held .0 .prepared, (held .0 .grouped, ((found .start-on-map, found .finish-on-map), (found-skyline found, held .1 .1 .0))))
 
 put-found-line-requires : tie.Need-put-found-line-requires
 put-found-line-requires c κs =

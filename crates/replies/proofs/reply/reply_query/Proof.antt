@@ -3,7 +3,9 @@ use native.Mathlib.Omega.{arith}
 use mathlib.Core.Path.{_≡_}
 use mathlib.Core.Logic.{_⊎_, ⊎-elim}
 use Prim.Native.Nat.{ℕ}
-use Rattle.replies.proofs.ReplyWays.{pair-or-refusal, found-zero, refusal-replied}
+use Rattle.labels.proofs.BatchSteps.{pair-or-zeros}
+use Rattle.labels.proofs.RouteWays.{found-zero}
+use Rattle.replies.proofs.ReplyWays.{refusal-replied}
 use borrow.Author.Needs.{needs}
 use Rattle.replies.proofs.reply.reply_query.Statement.{statement}
 use Rattle.replies.proofs.reply.reply_query.Tie as tie
@@ -25,11 +27,11 @@ same-length c = search needs
 
 returns : tie.Need-returns
 returns c = (
-  ⊎-elim (λ w. absurd (found-key (rw (w .is) at (c .before .before .before .before .before .match .keys2))))
+  ⊎-elim (λ w. absurd (found-key (rw (w .2) at (c .before .before .before .before .before .match .keys2))))
       (λ w.
       refusal-replied (c .before .before .before .before .before .before .answer .ensures .0) w (c .before .before .before .code .ensures)
       (c .before .before .put-refused-line .ensures))
-      (pair-or-refusal (c .before .before .before .before .before .before .answer .result)),
+      (pair-or-zeros (c .before .before .before .before .before .before .answer .result)),
   search needs,
 )
   where
@@ -41,7 +43,7 @@ put-found-requires : tie.Need-put-found-requires
 put-found-requires c κs =
     let answered = c .before .before .before .before .before .before .answer .ensures in
     let held = c .before .before .before .before .before .before .before .before .before .before .before .before .before .before .before .pre in
-    (held .0, (found-zero (answered .0) (c .before .before .before .before .found .given .1), ((held .1 .0 .junctions-places, answered .1 .marks-places), held .1 .1)))
+    (held .0, (found-zero (c .before .before .before .before .found .given .1) (answered .0), ((held .1 .0 .junctions-places, answered .1 .marks-places), held .1 .1)))
 
 same-length-2 : tie.Need-same-length-2
 same-length-2 c = search needs
