@@ -12,7 +12,7 @@ use Rattle.paths.specs.Route.{FirstRoute}
 use Rattle.paths.specs.Cut.{IsCut}
 use Rattle.refusals.specs.Lent.{filled}
 use Rattle.lists.specs.Entries.{times, energies}
-use Rattle.lists.specs.Answers.{Join, LimitedJoin}
+use Rattle.joins.specs.Answers.{Join, LimitedJoin}
 use Rattle.network.specs.NetworkFile.{netNumber, networkOf, junctionsOf}
 use Rattle.files.specs.LabelForm.{formBeside}
 use Rattle.files.specs.Shown.{Shows, Shown}

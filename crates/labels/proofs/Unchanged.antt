@@ -2,7 +2,7 @@
 use mathlib.Core.Path.{_≡_}
 use mathlib.Core.List.{List, []}
 use Prim.Native.Nat.{ℕ}
-use Rattle.lists.specs.Answers.{Join, LimitedJoin}
+use Rattle.joins.specs.Answers.{Join, LimitedJoin}
 use Rattle.files.specs.Shown.{Shows, Shown}
 use Rattle.query.specs.Answers.{Answers}
 use Rattle.labels.specs.Batch.{BatchDone}

@@ -1,14 +1,14 @@
 // The calls of Bushelvane. Each takes arbitrary bytes and numbers, always ends, and states its number, its values and every lent
 // place for all inputs; a refusal carries zeros and changes nothing lent. What the statements mean is said in specs/, one file a
 // call, in the words of the scope.
-use lists::JoinAnswer;
-use lists::SumAnswer;
+use joins::JoinAnswer;
+use joins::SumAnswer;
 use paths::energy::Energy;
 use paths::seconds::Seconds;
 ghost use Prim.Native.Nat.{_+_, _≤_};
 ghost use mathlib.Core.Path.{_≡_};
 ghost use lib.ListN.{length};
-ghost use Rattle.lists.specs.Answers.{Join, LimitedJoin, joinNumberOf, joinCountOf, sumNumberOf, sumTimeOf, sumEnergyOf};
+ghost use Rattle.joins.specs.Answers.{Join, LimitedJoin, joinNumberOf, joinCountOf, sumNumberOf, sumTimeOf, sumEnergyOf};
 ghost use Rattle.stored.specs.Stored.{listPlace};
 ghost use Rattle.files.specs.Shown.{Shown};
 ghost use Rattle.labels.specs.Check.{Checked};
@@ -252,7 +252,7 @@ pub fn join(
         (now («out_times» .entry)) (now («out_energies» .entry)) (joinNumberOf r) (joinCountOf r)
         (now («out_times» .exit)) (now («out_energies» .exit)) ⌝ }
 {
-    lists::join::join(
+    joins::join::join(
         times,
         energies,
         more_times,
@@ -274,7 +274,7 @@ pub fn limited_join(
         ⌜ LimitedJoin (now (times .entry)) (now (energies .entry)) (now («more_times» .entry)) (now («more_energies» .entry))
         limit (sumNumberOf r) (sumTimeOf r) (sumEnergyOf r) ⌝ }
 {
-    lists::sums::limited_join(times, energies, more_times, more_energies, limit)
+    joins::limited::limited_join(times, energies, more_times, more_energies, limit)
 }
 
 // Show: the very bytes of the list of v and its proper ancestor u, from its count through its last entry, or the empty part.

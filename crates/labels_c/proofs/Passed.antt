@@ -4,7 +4,7 @@ use mathlib.Core.List.{List}
 use Prim.Native.Nat.{ℕ, _-_, _≤_}
 use native.Mathlib.Omega.{arith}
 use lib.ListN.{take, drop}
-use Rattle.lists.specs.Answers.{Join, LimitedJoin}
+use Rattle.joins.specs.Answers.{Join, LimitedJoin}
 use Rattle.forest.specs.LabelFile.{listEnd}
 use Rattle.stored.specs.Stored.{listPlace}
 use Rattle.stored.proofs.Places.{list-takes}

@@ -1,13 +1,13 @@
 // The calls for C and Rust: functions of `labels` under C names, their statements passed on. An answer that is an enum there is a
 // struct of its number and values here.
+use joins::JoinAnswer;
+use joins::SumAnswer;
 use labels::ListAnswer;
 use labels::RouteAnswer;
-use lists::JoinAnswer;
-use lists::SumAnswer;
 ghost use mathlib.Core.Path.{_≡_};
 ghost use Prim.Native.Nat.{_≤_};
 ghost use lib.ListN.{take, drop};
-ghost use Rattle.lists.specs.Answers.{Join, LimitedJoin, joinNumberOf, joinCountOf, sumNumberOf, sumTimeOf, sumEnergyOf};
+ghost use Rattle.joins.specs.Answers.{Join, LimitedJoin, joinNumberOf, joinCountOf, sumNumberOf, sumTimeOf, sumEnergyOf};
 ghost use Rattle.stored.specs.Stored.{listPlace};
 ghost use Rattle.files.specs.Shown.{Shown};
 ghost use Rattle.labels.specs.Check.{Checked};

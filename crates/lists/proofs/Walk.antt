@@ -17,7 +17,7 @@ use Rattle.paths.proofs.Weights.{notLater-trans, sooner-trans, sooner-irrefl}
 use Rattle.lists.specs.Entries.{Weight, entryAt, IsList}
 use Rattle.lists.specs.Sums.{sumAt, BestPlaces}
 use Rattle.lists.specs.declared.sums.Sum.{Sum}
-use Rattle.lists.proofs.Rules.{test-fails, test-holds}
+use Rattle.lists.proofs.Tests.{test-fails, test-holds}
 use Rattle.lists.proofs.Entries.{energy-rises-far, time-falls-far, within-eq, notLater-eq}
 
 -- ---- A sum's numbers

@@ -1,7 +1,5 @@
-// The best sum of two lists within a limit, and Limited join.
+// The best sum of two lists within a limit.
 use crate::Places;
-use crate::SumAnswer;
-use crate::form::join_number;
 use paths::energy::Energy;
 use paths::seconds::Seconds;
 ghost use mathlib.Core.Path.{_≡_};
@@ -11,7 +9,6 @@ ghost use lib.ListN.{length, getD};
 ghost use Rattle.paths.specs.Weights.{energy, pair, Sooner, NotLater};
 ghost use Rattle.lists.specs.Entries.{IsList};
 ghost use Rattle.lists.specs.Sums.{sumAt, BestFound};
-ghost use Rattle.lists.specs.Answers.{LimitedJoin, sumNumberOf, sumTimeOf, sumEnergyOf};
 
 // A sum of an entry of the first list and one of the second: their places, and its time and energy.
 pub struct Sum {
@@ -126,40 +123,4 @@ pub fn best_sum(
         i += 1;
     }
     Places::At(best.first, best.second)
-}
-
-// Limited join, for all inputs.
-pub fn limited_join(
-    times: &[u32],
-    energies: &[u32],
-    more_times: &[u32],
-    more_energies: &[u32],
-    limit: u32,
-) -> SumAnswer
-    ensures { λ r.
-        ⌜ LimitedJoin
-        (now (times .entry))
-        (now (energies .entry))
-        (now («more_times» .entry))
-        (now («more_energies» .entry))
-        limit
-        (sumNumberOf r)
-        (sumTimeOf r)
-        (sumEnergyOf r) ⌝ }
-{
-    let number = join_number(times, energies, more_times, more_energies);
-    if number == 41 {
-        return SumAnswer::LengthsDiffer;
-    }
-    if number == 42 {
-        return SumAnswer::IllFormed;
-    }
-    let places = best_sum(times, energies, more_times, more_energies, Energy(limit));
-    let Places::At(i, j) = places else {
-        return SumAnswer::OverLimit;
-    };
-    let sum = sum_at(times, energies, more_times, more_energies, i, j);
-    let time = sum.time;
-    let units = sum.units;
-    SumAnswer::Found(time, units)
 }

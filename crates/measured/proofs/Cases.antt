@@ -2,9 +2,9 @@
 use mathlib.Core.Path.{_≡_, subst}
 use mathlib.Core.List.{List}
 use Prim.Native.Nat.{ℕ}
-use Rattle.lists.specs.declared.JoinAnswer.{JoinAnswer}
-use Rattle.lists.specs.declared.SumAnswer.{SumAnswer}
-use Rattle.lists.specs.Answers.{Join, LimitedJoin, joinNumberOf, joinCountOf, sumNumberOf, sumTimeOf, sumEnergyOf}
+use Rattle.joins.specs.declared.JoinAnswer.{JoinAnswer}
+use Rattle.joins.specs.declared.SumAnswer.{SumAnswer}
+use Rattle.joins.specs.Answers.{Join, LimitedJoin, joinNumberOf, joinCountOf, sumNumberOf, sumTimeOf, sumEnergyOf}
 
 -- Join
 pub join-case :

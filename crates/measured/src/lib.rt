@@ -1,12 +1,12 @@
 // What bench/ measures, exported to Rust. Each function hands its arguments on, so its time is that of the function measured.
 use files::form::form_beside;
+use joins::JoinAnswer;
+use joins::SumAnswer;
+use joins::join::join;
+use joins::limited::limited_join;
 use labels::accept::accept;
 use labels::triples::answer_all;
-use lists::JoinAnswer;
-use lists::SumAnswer;
 use lists::cover::cover;
-use lists::join::join;
-use lists::sums::limited_join;
 use network::network::net_number;
 use paths::energy::Energy;
 use paths::seconds::Seconds;
@@ -23,7 +23,7 @@ ghost use Rattle.network.specs.NetworkFile.{junctionsOf, networkOf};
 ghost use Rattle.network.specs.Roads.{Grouped};
 ghost use Rattle.lists.specs.Entries.{IsList, Weight};
 ghost use Rattle.lists.specs.Cover.{Covering};
-ghost use Rattle.lists.specs.Answers.{Join, LimitedJoin};
+ghost use Rattle.joins.specs.Answers.{Join, LimitedJoin};
 ghost use Rattle.exact.specs.Agreeing.{ListRoom};
 ghost use Rattle.query.specs.Prepared.{Prepared, Lent};
 ghost use Rattle.routes.specs.Written.{RouteFound, ListWritten};

@@ -1,7 +1,7 @@
 -- The best places give the best sum; no place means that no sum is within the limit, and an empty list that there is none.
 use mathlib.Core.Path.{refl}
 use borrow.Author.Needs.{needs}
-use Rattle.lists.proofs.SumAnswers.{places-at}
+use Rattle.lists.proofs.Entries.{places-at}
 use Rattle.query.proofs.MarkedSums.{no-first, no-second, no-places, best-places}
 use Rattle.query.proofs.across.of_sums.Statement.{statement}
 use Rattle.query.proofs.across.of_sums.Tie as tie

@@ -1,0 +1,149 @@
+// Join: the unbeaten sums of two lists, written to two lent slices. Nothing is written before the room is known, so the sums are gone
+// through twice, each time from the fast end: the best sum below a bound, then the best below that one's energy, and so on.
+use crate::JoinAnswer;
+use crate::form::join_number;
+use lists::Places;
+use lists::sums::best_sum;
+use lists::sums::sum_at;
+use paths::energy::Energy;
+ghost use mathlib.Core.Path.{_≡_};
+ghost use mathlib.Core.List.{List};
+ghost use Prim.Native.Nat.{_≤_};
+ghost use lib.ListN.{length};
+ghost use Rattle.paths.specs.Weights.{energy};
+ghost use Rattle.paths.specs.TradeOff.{IsJoin};
+ghost use Rattle.refusals.specs.Lent.{filled};
+ghost use Rattle.lists.specs.Entries.{Weight, IsList, entries, times as timesOf, energies as energiesOf};
+ghost use Rattle.joins.specs.Answers.{Join, joinNumberOf, joinCountOf};
+
+// More than the energy of any sum.
+const ABOVE_ALL: u32 = 2147483647;
+
+// How many entries the join has.
+fn join_count(times: &[u32], energies: &[u32], more_times: &[u32], more_energies: &[u32]) -> u32
+    requires { ⌜ IsList 1073741823 (now times) (now energies) ⌝ }
+    requires { ⌜ IsList 1073741823 (now «more_times») (now «more_energies») ⌝ }
+    ensures { λ r.
+        ⌜
+        ((joined : List Weight) →
+        IsJoin energy (entries (now (times .entry)) (now (energies .entry)))
+        (entries (now («more_times» .entry)) (now («more_energies» .entry)))
+        joined →
+        r ≡ length joined)
+        ⌝ }
+{
+    let mut count: u32 = 0;
+    let mut bound: u32 = ABOVE_ALL;
+    while bound > 0 {
+        let limit = Energy(bound - 1);
+        match best_sum(times, energies, more_times, more_energies, limit) {
+            Places::At(i, j) => {
+                let sum = sum_at(times, energies, more_times, more_energies, i, j);
+                count += 1;
+                bound = sum.units.0;
+            }
+            Places::Nowhere => return count,
+        }
+    }
+    count
+}
+
+// Fills the first places with the join, whose length is `count`, from the last place to the first.
+fn join_fill(
+    times: &[u32],
+    energies: &[u32],
+    more_times: &[u32],
+    more_energies: &[u32],
+    count: u32,
+    out_times: &mut [u32],
+    out_energies: &mut [u32],
+)
+    requires { ⌜ IsList 1073741823 (now times) (now energies) ⌝ }
+    requires { ⌜ IsList 1073741823 (now «more_times») (now «more_energies») ⌝ }
+    requires { ⌜
+        ((joined : List Weight) →
+        IsJoin energy (entries (now times) (now energies)) (entries (now «more_times») (now «more_energies»)) joined →
+        count ≡ length joined)
+        ⌝ }
+    requires { ⌜ count ≤ length (now «out_times») ⌝ }
+    requires { ⌜ count ≤ length (now «out_energies») ⌝ }
+    ensures { λ r.
+        ⌜
+        ((joined : List Weight) →
+        IsJoin energy (entries (now (times .entry)) (now (energies .entry)))
+        (entries (now («more_times» .entry)) (now («more_energies» .entry)))
+        joined →
+        now («out_times» .exit) ≡ filled (now («out_times» .entry)) (timesOf joined))
+        ⌝ }
+    ensures { λ r.
+        ⌜
+        ((joined : List Weight) →
+        IsJoin energy (entries (now (times .entry)) (now (energies .entry)))
+        (entries (now («more_times» .entry)) (now («more_energies» .entry)))
+        joined →
+        now («out_energies» .exit) ≡ filled (now («out_energies» .entry)) (energiesOf joined))
+        ⌝ }
+{
+    let mut place = count as usize;
+    let mut below: u32 = ABOVE_ALL;
+    while place > 0 {
+        let limit = Energy(below - 1);
+        match best_sum(times, energies, more_times, more_energies, limit) {
+            Places::At(i, j) => {
+                let sum = sum_at(times, energies, more_times, more_energies, i, j);
+                place -= 1;
+                out_times[place] = sum.time.0;
+                out_energies[place] = sum.units.0;
+                below = sum.units.0;
+            }
+            Places::Nowhere => return,
+        }
+    }
+}
+
+// Join: fills the first places of the two lent slices with the join of two lists, or refuses and leaves them as they are.
+pub fn join(
+    times: &[u32],
+    energies: &[u32],
+    more_times: &[u32],
+    more_energies: &[u32],
+    out_times: &mut [u32],
+    out_energies: &mut [u32],
+) -> JoinAnswer
+    ensures { λ r.
+        ⌜
+        Join (now (times .entry)) (now (energies .entry)) (now («more_times» .entry)) (now («more_energies» .entry))
+        (now («out_times» .entry))
+        (now («out_energies» .entry))
+        (joinNumberOf r)
+        (joinCountOf r)
+        (now («out_times» .exit))
+        (now («out_energies» .exit))
+        ⌝ }
+{
+    let number = join_number(times, energies, more_times, more_energies);
+    if number == 41 {
+        return JoinAnswer::LengthsDiffer;
+    }
+    if number == 42 {
+        return JoinAnswer::IllFormed;
+    }
+    let count = join_count(times, energies, more_times, more_energies);
+    let room = count as usize;
+    if out_times.len() < room {
+        return JoinAnswer::NoRoom;
+    }
+    if out_energies.len() < room {
+        return JoinAnswer::NoRoom;
+    }
+    join_fill(
+        times,
+        energies,
+        more_times,
+        more_energies,
+        count,
+        out_times,
+        out_energies,
+    );
+    JoinAnswer::Joined(count)
+}

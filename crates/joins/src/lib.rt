@@ -1,0 +1,23 @@
+// The two joins of trade-off lists as they are called: for all inputs, with their refusals.
+use paths::energy::Energy;
+use paths::seconds::Seconds;
+
+// What Join answers: how many places it filled, or why it refuses.
+pub enum JoinAnswer {
+    Joined(u32),
+    LengthsDiffer,
+    IllFormed,
+    NoRoom,
+}
+
+// What Limited join answers: the best sum, or why it refuses.
+pub enum SumAnswer {
+    Found(Seconds, Energy),
+    LengthsDiffer,
+    IllFormed,
+    OverLimit,
+}
+
+pub mod form;
+pub mod join;
+pub mod limited;
