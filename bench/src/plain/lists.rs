@@ -1,4 +1,4 @@
-//! Covering and the two joins, with the walks of crates/lists.
+//! Covering and the two joins, with the walks of crates/lists and crates/joins.
 
 use crate::inputs::lists::{Arc, List};
 use crate::proved::{Best, Count};
