@@ -1,5 +1,5 @@
 -- What each public call gives, for all inputs: document 01's section "The calls", one file a call. (Join and Limited join:
--- `lists/specs/Answers.antt`; Show: `files/specs/Shown.antt`.)
+-- `joins/specs/Answers.antt`; Show: `files/specs/Shown.antt`.)
 pub mod Check
 pub mod Batch
 pub mod Working
