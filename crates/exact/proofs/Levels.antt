@@ -18,9 +18,10 @@ use Rattle.stored.specs.Formed.{ListFits, Formed, StartsFilled}
 use Rattle.forest.proofs.Chains.{IsRoot, root?, depth-parent, ancestor-none, ancestor-more, climbed}
 use Rattle.forest.proofs.Forest.{above-at, above-is-up, above-shallower}
 use Rattle.stored.proofs.Places.{place-next, list-takes, list-number-of}
-use Rattle.exact.specs.Sweep.{AtLevel, PlacesFor}
+use Rattle.agree.specs.Agreeing.{PlacesFor}
+use Rattle.agree.proofs.Exactness.{below-on-map}
+use Rattle.exact.specs.Sweep.{AtLevel}
 use Rattle.exact.specs.Moving.{Stands, Advancing, Waits, Waiting}
-use Rattle.exact.proofs.Exactness.{below-on-map}
 
 -- ---- One junction moves on
 

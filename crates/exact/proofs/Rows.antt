@@ -14,7 +14,7 @@ use Rattle.stored.specs.Stored.{listsBefore, placeOf}
 use Rattle.forest.specs.Fits.{DepthsFilled}
 use Rattle.stored.specs.Formed.{ListFits, Formed, StartsFilled}
 use Rattle.stored.proofs.Places.{place-next, list-takes, list-number-of}
-use Rattle.exact.specs.Sweep.{RowOf}
+use Rattle.agree.specs.Agreeing.{RowOf}
 use Rattle.exact.proofs.Levels.{place-same}
 
 -- The lists for the depths from k on are noted, and the next one is at byte `here`

@@ -17,12 +17,11 @@ use Rattle.forest.specs.Forest.{depthOf}
 use Rattle.stored.specs.Stored.{stored}
 use Rattle.stored.specs.Formed.{Beside}
 use Rattle.forest.proofs.Forest.{above-at, above-shallower}
-use Rattle.exact.specs.Right.{EveryListRight}
-use Rattle.exact.specs.Sweep.{RowOf}
-use Rattle.exact.specs.Agreeing.{AgreeInput}
+use Rattle.agree.specs.Right.{EveryListRight}
+use Rattle.agree.specs.Agreeing.{RowOf, AgreeInput}
+use Rattle.agree.proofs.Exactness.{below-on-map, agreeing-is-right}
 use Rattle.exact.specs.Moving.{Waiting}
 use Rattle.exact.specs.Testing.{Every, AgreesBelow, AgreesAt, LevelAgrees, Ready, LevelInput}
-use Rattle.exact.proofs.Exactness.{below-on-map, agreeing-is-right}
 use Rattle.exact.proofs.Levels.{below-has-top, top-is-above, places-for}
 
 -- a statement that holds is decided by true, one that does not by false

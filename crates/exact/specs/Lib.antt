@@ -1,6 +1,4 @@
 -- Number 18: is every stored list the trade-off list of its two junctions?
-pub mod Right
 pub mod Sweep
-pub mod Agreeing
 pub mod Moving
 pub mod Testing

@@ -5,8 +5,7 @@ use mathlib.Core.List.{List}
 use Prim.Native.Nat.{ℕ, _-_, _≤_, _<_}
 use lib.ListN.{length, getD}
 use Rattle.network.specs.NetworkFile.{junctionsOf}
-use Rattle.paths.specs.Forest.{Above}
-use Rattle.forest.specs.LabelFile.{parentAt, parentsOf}
+use Rattle.forest.specs.LabelFile.{parentAt}
 use Rattle.forest.specs.Forest.{depthOf, ancestorOf}
 use Rattle.stored.specs.Stored.{listPlace, startOf}
 
@@ -18,13 +17,3 @@ pub record AtLevel (s : List ℕ) (d : ℕ) (tops places : List ℕ) : Type 0 wh
   pub place : (v : ℕ) → v < junctionsOf s → d < depthOf s v → getD places v 0 ≡ listPlace s v (ancestorOf s v (depthOf s v - d))
   pub waiting-top : (v : ℕ) → v < junctionsOf s → depthOf s v ≤ d → getD tops v 0 ≡ parentAt s v
   pub waiting-place : (v : ℕ) → v < junctionsOf s → depthOf s v ≤ d → getD places v 0 ≡ startOf s v
-
--- The bytes of u's own lists, by the depth of the ancestor
-pub record RowOf (s : List ℕ) (u : ℕ) (row : List ℕ) : Type 0 where
-  pub row-length : length row ≡ 1024
-  pub own : (k : ℕ) → k < depthOf s u → getD row k 0 ≡ listPlace s u (ancestorOf s u (depthOf s u - k))
-
--- The bytes of the lists for u of the junctions below u
-pub record PlacesFor (s : List ℕ) (u : ℕ) (places : List ℕ) : Type 0 where
-  pub places-length : length places ≡ 1024
-  pub place : (w : ℕ) → w < junctionsOf s → Above (parentsOf s) u w → getD places w 0 ≡ listPlace s w u

@@ -11,7 +11,8 @@ use Rattle.forest.specs.Forest.{depthOf}
 use Rattle.stored.specs.Stored.{stored}
 use Rattle.forest.specs.Fits.{DepthsFilled}
 use Rattle.stored.specs.Formed.{Beside, Tables}
-use Rattle.exact.specs.Sweep.{AtLevel, RowOf}
+use Rattle.agree.specs.Agreeing.{RowOf}
+use Rattle.exact.specs.Sweep.{AtLevel}
 
 -- P holds of every number below n
 pub record Every (P : ℕ → Type 0) (n : ℕ) : Type 0 where

@@ -1,6 +1,6 @@
 // The sweep over the labels, level by level of the forest from the deepest up. No list is searched for: each junction has a
 // reading place, which moves on by one list a level.
-use crate::agree::list_agrees;
+use agree::agree::list_agrees;
 use forest::parents::parent_at;
 use network::bytes::u16_at;
 use stored::place::Place;
@@ -12,9 +12,9 @@ ghost use Rattle.network.specs.NetworkFile.{junctionsOf};
 ghost use Rattle.lists.specs.Cover.{Decides};
 ghost use Rattle.forest.specs.Fits.{DepthsFilled};
 ghost use Rattle.stored.specs.Formed.{Formed, StartsFilled, Beside, Tables};
-ghost use Rattle.exact.specs.Right.{EveryListRight};
-ghost use Rattle.exact.specs.Sweep.{AtLevel, RowOf};
-ghost use Rattle.exact.specs.Agreeing.{ListRoom, Room};
+ghost use Rattle.agree.specs.Right.{EveryListRight};
+ghost use Rattle.agree.specs.Agreeing.{RowOf, ListRoom, Room};
+ghost use Rattle.exact.specs.Sweep.{AtLevel};
 ghost use Rattle.exact.specs.Moving.{Advancing, Waiting};
 ghost use Rattle.exact.specs.Testing.{Every, AgreesBelow, AgreesAt, LevelAgrees, Ready, LevelInput};
 

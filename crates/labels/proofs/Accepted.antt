@@ -5,9 +5,9 @@ use Prim.Native.Nat.{ℕ}
 use native.Mathlib.Omega.{arith}
 use Rattle.network.proofs.Accepted.{network-fits}
 use Rattle.files.proofs.FormLaws.{form-beside-passed}
-use Rattle.exact.specs.Right.{Accepted}
+use Rattle.agree.specs.Right.{Accepted}
 use lib.ListN.{length}
-use Rattle.exact.specs.Agreeing.{ListRoom}
+use Rattle.agree.specs.Agreeing.{ListRoom}
 use Rattle.query.specs.Prepared.{Prepared, Lent}
 use Rattle.labels.specs.Check.{Checked, network-refused, labels-refused, list-wrong, accepted}
 use Rattle.labels.specs.Working.{Accepting}

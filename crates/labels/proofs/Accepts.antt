@@ -11,7 +11,7 @@ use Rattle.network.specs.Roads.{Grouped}
 use Rattle.network.proofs.Accepted.{network-fits}
 use Rattle.stored.specs.Formed.{Tables, Beside}
 use Rattle.files.specs.FormRead.{BesideRead}
-use Rattle.exact.specs.Right.{EveryListRight}
+use Rattle.agree.specs.Right.{EveryListRight}
 use Rattle.labels.specs.Check.{Checked, network-refused, labels-refused, list-wrong, accepted}
 use Rattle.labels.specs.Working.{Accepting}
 

@@ -25,8 +25,8 @@ use Rattle.network.proofs.Accepted.{network-fits}
 use Rattle.files.specs.LabelForm.{formBeside}
 use Rattle.stored.specs.Formed.{Beside}
 use Rattle.files.proofs.FormLaws.{form-beside-passed}
-use Rattle.exact.specs.Right.{EveryListRight}
-use Rattle.exact.proofs.Exactness.{lists-ordered}
+use Rattle.agree.specs.Right.{EveryListRight}
+use Rattle.agree.proofs.Exactness.{lists-ordered}
 use Rattle.query.specs.Answers.{Answers, off-map, not-connected, over-limit, found}
 use Rattle.query.proofs.AnswersUnique.{answers-unique}
 use Rattle.labels.specs.Check.{Checked}

@@ -6,7 +6,7 @@ use network::network::net_number;
 use network::roads::group_roads;
 ghost use mathlib.Core.Path.{_≡_};
 ghost use lib.ListN.{length};
-ghost use Rattle.exact.specs.Agreeing.{ListRoom};
+ghost use Rattle.agree.specs.Agreeing.{ListRoom};
 ghost use Rattle.labels.specs.Working.{Accepting};
 
 pub fn accept(

@@ -24,7 +24,7 @@ ghost use Rattle.network.specs.Roads.{Grouped};
 ghost use Rattle.lists.specs.Entries.{IsList, Weight};
 ghost use Rattle.lists.specs.Cover.{Covering};
 ghost use Rattle.joins.specs.Answers.{Join, LimitedJoin};
-ghost use Rattle.exact.specs.Agreeing.{ListRoom};
+ghost use Rattle.agree.specs.Agreeing.{ListRoom};
 ghost use Rattle.query.specs.Prepared.{Prepared, Lent};
 ghost use Rattle.routes.specs.Written.{RouteFound, ListWritten};
 ghost use Rattle.labels.specs.Check.{Checked};

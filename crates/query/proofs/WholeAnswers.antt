@@ -28,7 +28,7 @@ use Rattle.forest.specs.Fits.{ParentsFit}
 use Rattle.stored.specs.Scanned.{FoundList}
 use Rattle.forest.proofs.Chains.{climbed}
 use Rattle.forest.proofs.Forest.{AncestorAt, ancestor-at, above-shallower}
-use Rattle.exact.proofs.Exactness.{roads-two-way, parents-forest, roads-joined}
+use Rattle.agree.proofs.Exactness.{roads-two-way, parents-forest, roads-joined}
 use Rattle.query.specs.declared.Answer.{Answer}
 use Rattle.query.specs.Prepared.{Prepared}
 use Rattle.query.specs.Answers.{numberOf, timeOf, energyOf, Answers}

@@ -5,7 +5,7 @@ use Prim.Native.Nat.{ℕ}
 use lib.ListN.{length}
 use Rattle.forest.specs.Fits.{DepthsFilled}
 use Rattle.stored.specs.Formed.{StartsFilled, Beside}
-use Rattle.exact.specs.Right.{EveryListRight}
+use Rattle.agree.specs.Right.{EveryListRight}
 
 -- A network and labels that pass every test, with the two tables of the junctions
 pub record Prepared (net s depths starts : List ℕ) : Type 0 where

@@ -6,7 +6,7 @@ use native.Mathlib.Omega.{arith}
 use lib.ListN.{length}
 use Rattle.network.specs.Bytes.{u32At}
 use Rattle.network.specs.Reads.{ReadU16}
-use Rattle.exact.specs.Agreeing.{ListRoom}
+use Rattle.agree.specs.Agreeing.{ListRoom}
 use Rattle.labels.specs.Working.{Accepting}
 use Rattle.labels.proofs.Accepted.{ready-for-queries}
 use Rattle.replies.specs.Lines.{headingLine, refusedLine}

@@ -7,7 +7,7 @@ use network::bytes::u16_at;
 use network::bytes::u32_at;
 ghost use mathlib.Core.Path.{_≡_};
 ghost use lib.ListN.{length};
-ghost use Rattle.exact.specs.Agreeing.{ListRoom};
+ghost use Rattle.agree.specs.Agreeing.{ListRoom};
 ghost use Rattle.replies.specs.Working.{FirstLine};
 
 // Checks the files once and puts the heading, or the refusal, at the start of the buffer.

@@ -28,7 +28,7 @@ use Rattle.network.proofs.Arcs.{network-finite}
 use Rattle.forest.specs.LabelFile.{parentsOf}
 use Rattle.stored.specs.Stored.{stored, listPlace}
 use Rattle.stored.proofs.Lists.{list-in-range}
-use Rattle.exact.proofs.Exactness.{stored-fits, parents-forest, roads-joined}
+use Rattle.agree.proofs.Exactness.{stored-fits, parents-forest, roads-joined}
 use Rattle.query.specs.Prepared.{Prepared}
 use Rattle.query.specs.Answers.{Answers, off-map, not-connected, over-limit, found}
 use Rattle.query.specs.AnswerFrom.{EntryOf}

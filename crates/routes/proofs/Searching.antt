@@ -23,7 +23,7 @@ use Rattle.stored.specs.Stored.{listAt, stored}
 use Rattle.stored.specs.Formed.{Formed, ListFits}
 use Rattle.stored.specs.Scanned.{FoundList}
 use Rattle.stored.proofs.Tabulate.{Stands, member-stands, tabulate-member}
-use Rattle.exact.proofs.Exactness.{parents-forest, roads-joined}
+use Rattle.agree.proofs.Exactness.{parents-forest, roads-joined}
 use Rattle.query.specs.Prepared.{Prepared}
 use Rattle.query.specs.Meeting.{MeetsAt, HopMarks}
 use Rattle.query.specs.AnswerFrom.{EntryOf}

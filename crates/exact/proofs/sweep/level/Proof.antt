@@ -3,8 +3,8 @@ use Prim.Native.Nat.{_-_}
 use native.Mathlib.Omega.{arith}
 use borrow.Author.Needs.{needs}
 use Rattle.network.specs.NetworkFile.{junctionsOf}
+use Rattle.agree.specs.Agreeing.{Room}
 use Rattle.exact.specs.Testing.{AgreesAt}
-use Rattle.exact.specs.Agreeing.{Room}
 use Rattle.exact.proofs.Verdicts.{Ascending, ascending-start, ascending-more, ascending-fails, ascending-end}
 use Rattle.exact.proofs.sweep.level.Statement.{statement}
 use Rattle.exact.proofs.sweep.level.Tie as tie

@@ -1,8 +1,8 @@
 -- The lists for the junctions from depth d on agree; a level that fails is one list that is not right.
 use native.Mathlib.Omega.{arith}
 use borrow.Author.Needs.{needs}
+use Rattle.agree.specs.Agreeing.{Room}
 use Rattle.exact.specs.Testing.{LevelAgrees}
-use Rattle.exact.specs.Agreeing.{Room}
 use Rattle.exact.specs.Sweep.{AtLevel}
 use Rattle.exact.proofs.Levels.{waiting-level}
 use Rattle.exact.proofs.Verdicts.{Descending, descending-more, deepest-agrees, level-fails, levels-end}

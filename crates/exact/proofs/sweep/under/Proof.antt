@@ -3,7 +3,7 @@ use Prim.Native.Nat.{_-_}
 use native.Mathlib.Omega.{arith}
 use borrow.Author.Needs.{needs}
 use Rattle.network.specs.NetworkFile.{junctionsOf}
-use Rattle.exact.specs.Agreeing.{Room}
+use Rattle.agree.specs.Agreeing.{Room}
 use Rattle.exact.specs.Testing.{AgreesBelow}
 use Rattle.exact.proofs.Verdicts.{Ascending, ascending-start, ascending-more, ascending-fails, ascending-end}
 use Rattle.exact.proofs.sweep.under.Statement.{statement}

@@ -1,9 +1,9 @@
--- `exact::agree::sums_covered` is right: the first places of the slices are lists.
+-- `agree::agree::sums_covered` is right: the first places of the slices are lists.
 use native.Mathlib.Omega.{arith}
-use Rattle.exact.proofs.AgreeLists.{part-list, part-length, part-covering}
+use Rattle.agree.proofs.AgreeLists.{part-list, part-length, part-covering}
 use borrow.Author.Needs.{needs}
-use Rattle.exact.proofs.agree.sums_covered.Statement.{statement}
-use Rattle.exact.proofs.agree.sums_covered.Tie as tie
+use Rattle.agree.proofs.agree.sums_covered.Statement.{statement}
+use Rattle.agree.proofs.agree.sums_covered.Tie as tie
 
 sub-cover : tie.Need-sub-cover
 sub-cover c = search needs

@@ -4,7 +4,7 @@ use mathlib.Core.Path.{_≡_}
 use mathlib.Core.Logic.{_⊎_}
 use mathlib.Core.Bool.{Bool, true}
 use mathlib.Core.List.{List, [], _∷_}
-use Prim.Native.Nat.{ℕ, _≤_, _<_}
+use Prim.Native.Nat.{ℕ, _-_, _≤_, _<_}
 use lib.ListN.{length, getD, take}
 use Rattle.paths.specs.Weights.{weights, energy, pair, Covered}
 use Rattle.paths.specs.Forest.{Above, Related}
@@ -14,14 +14,24 @@ use Rattle.lists.specs.Cover.{Decides}
 use Rattle.network.specs.NetworkFile.{networkOf, junctionsOf, roadsOf, RoadArc}
 use Rattle.network.specs.Roads.{touches, Grouped}
 use Rattle.forest.specs.LabelFile.{parentsOf}
+use Rattle.forest.specs.Forest.{depthOf, ancestorOf}
 use Rattle.stored.specs.Stored.{listPlace, listAt, stored}
 use Rattle.forest.specs.Fits.{DepthsFilled}
 use Rattle.stored.specs.Formed.{Formed, ListFits, Beside}
-use Rattle.exact.specs.Sweep.{RowOf, PlacesFor}
-use Rattle.exact.specs.declared.agree.RestPlace.{RestPlace}
-use Rattle.exact.specs.declared.agree.RestPlace.the-variants.{Arrived, Stored}
+use Rattle.agree.specs.declared.agree.RestPlace.{RestPlace}
+use Rattle.agree.specs.declared.agree.RestPlace.the-variants.{Arrived, Stored}
 
 -- ---- The input
+
+-- The bytes of u's own lists, by the depth of the ancestor
+pub record RowOf (s : List ℕ) (u : ℕ) (row : List ℕ) : Type 0 where
+  pub row-length : length row ≡ 1024
+  pub own : (k : ℕ) → k < depthOf s u → getD row k 0 ≡ listPlace s u (ancestorOf s u (depthOf s u - k))
+
+-- The bytes of the lists for u of the junctions below u
+pub record PlacesFor (s : List ℕ) (u : ℕ) (places : List ℕ) : Type 0 where
+  pub places-length : length places ≡ 1024
+  pub place : (w : ℕ) → w < junctionsOf s → Above (parentsOf s) u w → getD places w 0 ≡ listPlace s w u
 
 -- What is known where the stored list of v and its proper ancestor u is tested
 pub record AgreeInput (net s depths heads nexts places row : List ℕ) (v u : ℕ) : Type 0 where

@@ -22,7 +22,7 @@ use Rattle.stored.specs.Scanned.{FoundList}
 use Rattle.forest.proofs.Forest.{HasParent, parents-some, above-shallower, forest, roads-related}
 use Rattle.stored.proofs.Places.{list-number-of, found-fits}
 use Rattle.stored.proofs.Lists.{list-ordered}
-use Rattle.exact.specs.Right.{EveryListRight}
+use Rattle.agree.specs.Right.{EveryListRight}
 
 -- a junction with an ancestor is on the map
 pub below-on-map : (s : List ℕ) {u v : ℕ} → Above (parentsOf s) u v → v < junctionsOf s

@@ -1,10 +1,10 @@
--- `exact::agree::all_marked` is right: the loop ends at the first mark that is not 1, or has read them all.
+-- `agree::agree::all_marked` is right: the loop ends at the first mark that is not 1, or has read them all.
 use Prim.Native.Nat.{_-_}
-use Rattle.exact.specs.Agreeing.{AllMarked}
-use Rattle.exact.proofs.AgreeSteps.{marked-none, marked-more, marked-refuse, marked-end}
+use Rattle.agree.specs.Agreeing.{AllMarked}
+use Rattle.agree.proofs.AgreeSteps.{marked-none, marked-more, marked-refuse, marked-end}
 use borrow.Author.Needs.{needs}
-use Rattle.exact.proofs.agree.all_marked.Statement.{statement}
-use Rattle.exact.proofs.agree.all_marked.Tie as tie
+use Rattle.agree.proofs.agree.all_marked.Statement.{statement}
+use Rattle.agree.proofs.agree.all_marked.Tie as tie
 
 abbrev Inv-loop : tie.InvT-loop
 Inv-loop marks count i₀ i = AllMarked marks i

@@ -1,8 +1,8 @@
--- `exact::agree::load_rest` is right: where the way is over, what is left is one entry of nothing; else it is the list at the byte.
-use Rattle.exact.proofs.AgreeLists.{arrived-rest, stored-rest}
+-- `agree::agree::load_rest` is right: where the way is over, what is left is one entry of nothing; else it is the list at the byte.
+use Rattle.agree.proofs.AgreeLists.{arrived-rest, stored-rest}
 use borrow.Author.Needs.{needs}
-use Rattle.exact.proofs.agree.load_rest.Statement.{statement}
-use Rattle.exact.proofs.agree.load_rest.Tie as tie
+use Rattle.agree.proofs.agree.load_rest.Statement.{statement}
+use Rattle.agree.proofs.agree.load_rest.Tie as tie
 
 enum-known-place : tie.Need-enum-known-place
 enum-known-place c = search needs

@@ -19,7 +19,7 @@ ghost use Rattle.network.specs.NetworkFile.{networkOf};
 ghost use Rattle.forest.specs.LabelFile.{parentsOf};
 ghost use Rattle.stored.specs.Stored.{listAt, stored};
 ghost use Rattle.stored.specs.Formed.{ListFits};
-ghost use Rattle.exact.specs.Agreeing.{AgreeInput, ListRoom, Room, RoadInput, RestInput, RestAt, restEntries, RestFits, Leads, Holds, RoadTested, Cleared, AllMarked};
+ghost use Rattle.agree.specs.Agreeing.{AgreeInput, ListRoom, Room, RoadInput, RestInput, RestAt, restEntries, RestFits, Leads, Holds, RoadTested, Cleared, AllMarked};
 
 // Where the list of a neighbour and an ancestor is: the neighbour is the ancestor, or a list is stored at a byte.
 pub enum RestPlace {

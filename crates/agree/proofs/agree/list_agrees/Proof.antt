@@ -1,10 +1,10 @@
--- `exact::agree::list_agrees` is right: each turn adds one road of v, and behind the last road the list agrees exactly if every entry is marked.
+-- `agree::agree::list_agrees` is right: each turn adds one road of v, and behind the last road the list agrees exactly if every entry is marked.
 use Prim.Native.Nat.{_-_}
 use native.Mathlib.Omega.{arith}
 use borrow.Author.Needs.{needs}
 use borrow.Author.Tests.{not-true, not-false}
-use Rattle.exact.specs.Agreeing.{Room}
-use Rattle.exact.proofs.AgreeSteps.{
+use Rattle.agree.specs.Agreeing.{Room}
+use Rattle.agree.proofs.AgreeSteps.{
   Agreed,
   agreed-start,
   agreed-more,
@@ -19,8 +19,8 @@ use Rattle.exact.proofs.AgreeSteps.{
   road-input,
   next-input,
 }
-use Rattle.exact.proofs.agree.list_agrees.Statement.{statement}
-use Rattle.exact.proofs.agree.list_agrees.Tie as tie
+use Rattle.agree.proofs.agree.list_agrees.Statement.{statement}
+use Rattle.agree.proofs.agree.list_agrees.Tie as tie
 
 abbrev Inv-loop : tie.InvT-loop
 Inv-loop net labels depths heads nexts places row v u own-times own-energies rest-times₀ rest-energies₀ marks₀ own-count roads k₀ rest-times rest-energies marks k =

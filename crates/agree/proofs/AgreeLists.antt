@@ -25,10 +25,10 @@ use Rattle.stored.specs.Formed.{Formed, ListFits, Beside}
 use Rattle.stored.specs.Scanned.{Loaded}
 use Rattle.stored.proofs.Tabulate.{length-tabulate, getD-tabulate}
 use Rattle.forest.proofs.Forest.{above-shallower, above-at}
-use Rattle.exact.specs.Agreeing.{RestInput, RestAt, one-junction, with-neighbour, with-ancestor, restEntries, RestFits, ListRoom, Leads, Holds, Left}
-use Rattle.exact.specs.declared.agree.RestPlace.{RestPlace}
-use Rattle.exact.specs.declared.agree.RestPlace.the-variants.{Arrived, Stored}
-use Rattle.exact.proofs.Exactness.{stored-fits, parents-forest}
+use Rattle.agree.specs.Agreeing.{RestInput, RestAt, one-junction, with-neighbour, with-ancestor, restEntries, RestFits, ListRoom, Leads, Holds, Left}
+use Rattle.agree.specs.declared.agree.RestPlace.{RestPlace}
+use Rattle.agree.specs.declared.agree.RestPlace.the-variants.{Arrived, Stored}
+use Rattle.agree.proofs.Exactness.{stored-fits, parents-forest}
 
 -- ---- Tables as slices
 

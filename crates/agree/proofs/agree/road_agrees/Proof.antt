@@ -1,10 +1,10 @@
--- `exact::agree::road_agrees` is right: the loaded list holds what is left behind road k, so the covering test tells what the road tells.
+-- `agree::agree::road_agrees` is right: the loaded list holds what is left behind road k, so the covering test tells what the road tells.
 use native.Mathlib.Omega.{arith}
-use Rattle.exact.proofs.AgreeLists.{rest-fits}
-use Rattle.exact.proofs.AgreeSteps.{neighbour-input, road-tested, room-after}
+use Rattle.agree.proofs.AgreeLists.{rest-fits}
+use Rattle.agree.proofs.AgreeSteps.{neighbour-input, road-tested, room-after}
 use borrow.Author.Needs.{needs}
-use Rattle.exact.proofs.agree.road_agrees.Statement.{statement}
-use Rattle.exact.proofs.agree.road_agrees.Tie as tie
+use Rattle.agree.proofs.agree.road_agrees.Statement.{statement}
+use Rattle.agree.proofs.agree.road_agrees.Tie as tie
 
 other-end-requires : tie.Need-other-end-requires
 other-end-requires c κs = search needs

@@ -24,7 +24,7 @@ use Rattle.forest.specs.LabelFile.{parentsOf}
 use Rattle.stored.specs.Stored.{listAt, stored}
 use Rattle.stored.specs.Formed.{ListFits, Beside}
 use Rattle.forest.proofs.Forest.{above-at}
-use Rattle.exact.specs.Agreeing.{
+use Rattle.agree.specs.Agreeing.{
   AgreeInput,
   Room,
   RoadInput,
@@ -41,9 +41,9 @@ use Rattle.exact.specs.Agreeing.{
   Cleared,
   AllMarked,
 }
-use Rattle.exact.specs.declared.agree.RestPlace.{RestPlace}
-use Rattle.exact.proofs.Exactness.{stored-fits, roads-joined}
-use Rattle.exact.proofs.AgreeLists.{neighbour-related, rest-left, left-rest}
+use Rattle.agree.specs.declared.agree.RestPlace.{RestPlace}
+use Rattle.agree.proofs.Exactness.{stored-fits, roads-joined}
+use Rattle.agree.proofs.AgreeLists.{neighbour-related, rest-left, left-rest}
 
 -- ---- Marks
 

@@ -1,9 +1,9 @@
--- `exact::agree::rest_place` is right: of two related junctions that differ the deeper one is below the other and stores their list.
-use Rattle.exact.specs.Agreeing.{one-junction}
-use Rattle.exact.proofs.AgreeLists.{rest-depth, rest-below, rest-above}
+-- `agree::agree::rest_place` is right: of two related junctions that differ the deeper one is below the other and stores their list.
+use Rattle.agree.specs.Agreeing.{one-junction}
+use Rattle.agree.proofs.AgreeLists.{rest-depth, rest-below, rest-above}
 use borrow.Author.Needs.{needs}
-use Rattle.exact.proofs.agree.rest_place.Statement.{statement}
-use Rattle.exact.proofs.agree.rest_place.Tie as tie
+use Rattle.agree.proofs.agree.rest_place.Statement.{statement}
+use Rattle.agree.proofs.agree.rest_place.Tie as tie
 
 returns : tie.Need-returns
 returns c = one-junction (c .if1 .taken)

@@ -1,8 +1,8 @@
--- `exact::agree::load_list` is right: a list that fits has room, and what was loaded is its entries.
-use Rattle.exact.proofs.AgreeLists.{loaded-holds}
+-- `agree::agree::load_list` is right: a list that fits has room, and what was loaded is its entries.
+use Rattle.agree.proofs.AgreeLists.{loaded-holds}
 use borrow.Author.Needs.{needs}
-use Rattle.exact.proofs.agree.load_list.Statement.{statement}
-use Rattle.exact.proofs.agree.load_list.Tie as tie
+use Rattle.agree.proofs.agree.load_list.Statement.{statement}
+use Rattle.agree.proofs.agree.load_list.Tie as tie
 
 load-requires : tie.Need-load-requires
 load-requires c κs = search needs

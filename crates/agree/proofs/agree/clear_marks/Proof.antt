@@ -1,11 +1,11 @@
--- `exact::agree::clear_marks` is right: each turn clears one mark more.
+-- `agree::agree::clear_marks` is right: each turn clears one mark more.
 use Prim.Native.Nat.{_-_}
 use native.Mathlib.Omega.{arith}
-use Rattle.exact.specs.Agreeing.{Cleared}
-use Rattle.exact.proofs.AgreeSteps.{cleared-none, cleared-more, cleared-end}
+use Rattle.agree.specs.Agreeing.{Cleared}
+use Rattle.agree.proofs.AgreeSteps.{cleared-none, cleared-more, cleared-end}
 use borrow.Author.Needs.{needs}
-use Rattle.exact.proofs.agree.clear_marks.Statement.{statement}
-use Rattle.exact.proofs.agree.clear_marks.Tie as tie
+use Rattle.agree.proofs.agree.clear_marks.Statement.{statement}
+use Rattle.agree.proofs.agree.clear_marks.Tie as tie
 
 abbrev Inv-loop : tie.InvT-loop
 Inv-loop marks₀ count i₀ marks i = Cleared marks i

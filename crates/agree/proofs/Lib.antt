@@ -1,0 +1,4 @@
+-- Why the lists are right exactly if each passes its test, and why the test is carried out right. Read in this order.
+pub mod Exactness
+pub mod AgreeLists
+pub mod AgreeSteps

@@ -1,0 +1,3 @@
+-- What it is that every stored list is right, and the test of one list. Read in this order.
+pub mod Right
+pub mod Agreeing

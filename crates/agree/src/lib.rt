@@ -1,0 +1,2 @@
+// The test of one stored list by the lists one road further.
+pub mod agree;
