@@ -1,8 +1,8 @@
 -- One walk up the first list and down the second finds the best sum: one law for each way through it.
 -- In this order: a sum's numbers; two sums compared; the entries that fit beside an energy; the last that fits; the walk.
 use mathlib.Core.Path.{_≡_, refl, sym, ap, _∙_, subst}
-use mathlib.Core.Logic.{_⊎_, inl, inr, ⊎-elim}
-use mathlib.Core.Bool.{Bool, true, false, not}
+use mathlib.Core.Logic.{_⊎_, inl, inr}
+use mathlib.Core.Bool.{Bool, true, false, not, true≢false}
 use mathlib.Core.List.{List}
 use Prim.Native.Nat.{ℕ, zero, suc, _+_, _-_, _≤_, _<_, _^_}
 use native.Mathlib.Decide.{decLe, ℕ-discrete}
@@ -52,43 +52,49 @@ pair-is p q = λ i. record { first = q i; second = p i }
 abbrev pub weightOf : Sum → Weight
 weightOf s = pair (s .time .0) (s .units .0)
 
--- The candidate if it comes before the best as an answer, else the best
-abbrev pub Chosen : Sum → Sum → Sum → Type 0
-Chosen best candidate r =
-    (Sooner energy (weightOf candidate) (weightOf best) × (r ≡ candidate)) ⊎
-    (NotLater energy (weightOf best) (weightOf candidate) × (r ≡ best))
+-- Whether a weight comes before another as an answer
+abbrev pub Compared : Weight → Weight → Bool → Type 0
+Compared p q r = (Sooner energy p q × (r ≡ true)) ⊎ (NotLater energy q p × (r ≡ false))
 
-module _ (best candidate : Sum) {quicker : Bool} (q : quicker ≡ ltb (candidate .time .0) (best .time .0)) where
+module _ {t e t′ e′ : ℕ} {quicker : Bool} (q : quicker ≡ ltb t t′) where
   -- less time
-  pub chosen-quicker : quicker ≡ true → Chosen best candidate candidate
-  chosen-quicker t = inl (by-time (ltb-true _ _ (sym q ∙ t)), refl)
+  pub compared-quicker : quicker ≡ true → Compared (pair t e) (pair t′ e′) true
+  compared-quicker h = inl (by-time (ltb-true _ _ (sym q ∙ h)), refl)
 
-  module _ {slower : Bool} (s : slower ≡ ltb (best .time .0) (candidate .time .0)) where
+  module _ {slower : Bool} (s : slower ≡ ltb t′ t) where
     -- more time
-    pub chosen-slower : slower ≡ true → Chosen best candidate best
-    chosen-slower t = inr (sooner (by-time (ltb-true _ _ (sym s ∙ t))), refl)
+    pub compared-slower : slower ≡ true → Compared (pair t e) (pair t′ e′) false
+    compared-slower h = inr (sooner (by-time (ltb-true _ _ (sym s ∙ h))), refl)
 
-    -- equal times are decided by least energy
-    module _ (f : quicker ≡ false) (g : slower ≡ false) {cheaper : Bool} (e : cheaper ≡ ltb (candidate .units .0) (best .units .0)) where
-      one-time : candidate .time .0 ≡ best .time .0
-      one-time =
-          let a : best .time .0 ≤ candidate .time .0 = ltb-false _ _ (sym q ∙ f) in
-          let b : candidate .time .0 ≤ best .time .0 = ltb-false _ _ (sym s ∙ g) in
-          omega arith
+    -- equal times are decided by less energy
+    pub compared-cheaper :
+        {cheaper : Bool} → quicker ≡ false → slower ≡ false → cheaper ≡ ltb e e′ → Compared (pair t e) (pair t′ e′) cheaper
+    compared-cheaper {cheaper} f g = decide cheaper
+      where
+        one-time : t ≡ t′
+        one-time =
+            let a : t′ ≤ t = ltb-false _ _ (sym q ∙ f) in
+            let b : t ≤ t′ = ltb-false _ _ (sym s ∙ g) in
+            omega arith
 
-      -- less energy
-      pub chosen-cheaper : cheaper ≡ true → Chosen best candidate candidate
-      chosen-cheaper t = inl (by-figures one-time (ltb-true _ _ (sym e ∙ t)), refl)
+        no-later : e′ ≤ e → Dec (e ≤ e′) → NotLater energy (pair t′ e′) (pair t e)
+        no-later l (yes h) =
+            let z : e′ ≡ e = omega arith in
+            same (pair-is (sym one-time) z)
+        no-later l (no h) = sooner (by-figures (sym one-time) (omega arith))
 
-      -- no less
-      pub chosen-kept : cheaper ≡ false → Chosen best candidate best
-      chosen-kept n = inr (pick (ltb-false _ _ (sym e ∙ n)) (decLe (candidate .units .0) (best .units .0)), refl)
-        where
-          pick : best .units .0 ≤ candidate .units .0 → Dec (candidate .units .0 ≤ best .units .0) → NotLater energy (weightOf best) (weightOf candidate)
-          pick l (yes h) =
-              let z : best .units .0 ≡ candidate .units .0 = omega arith in
-              same (pair-is (sym one-time) z)
-          pick l (no h) = sooner (by-figures (sym one-time) (omega arith))
+        decide : (b : Bool) → b ≡ ltb e e′ → Compared (pair t e) (pair t′ e′) b
+        decide true h = inl (by-figures one-time (ltb-true _ _ (sym h)), refl)
+        decide false h = inr (no-later (ltb-false _ _ (sym h)) (decLe e e′), refl)
+
+-- what is known where it does, and where it does not
+compared-before : {p q : Weight} {r : Bool} → Compared p q r → r ≡ true → Sooner energy p q
+compared-before (inl (before, t)) h = before
+compared-before (inr (later, f)) h = absurd (true≢false (sym h ∙ f))
+
+compared-later : {p q : Weight} {r : Bool} → Compared p q r → r ≡ false → NotLater energy q p
+compared-later (inl (before, t)) h = absurd (true≢false (sym t ∙ h))
+compared-later (inr (later, f)) h = later
 
 -- what is sooner is not also no sooner
 not-both : {p q : Weight} → Sooner energy q p → NotLater energy p q → ⊥
@@ -323,19 +329,23 @@ module _ {most : ℕ} {ts es us fs : List ℕ} (first : IsList most ts es) (seco
     walk-fits h l between fits =
         fit-from (walked .fits-in-list) (λ k a b. walked .beyond n k (omega arith) (omega (arith, first .one-length)) a b) l between fits
 
-    -- entry n has a sum, and the better of it and the best is kept
+    -- entry n has a sum, which is taken if it comes before the best
     pub walk-more :
-        {r : ℕ} {candidate next : Sum} → n < length ts → Fit fs (getD es n 0) C r → 0 < r → Weighed ts es us fs candidate n (r - 1) →
-        Chosen best candidate next → Walked ts es us fs C (n + 1) r next
-    walk-more h fit some is (inl (before, e)) =
+        {r : ℕ} {candidate next : Sum} {before : Bool} → n < length ts → Fit fs (getD es n 0) C r → 0 < r → Weighed ts es us fs candidate n (r - 1) →
+        Compared (weightOf candidate) (weightOf best) before →
+        ((before ≡ true) × (next ≡ candidate)) ⊎ ((before ≡ false) × (next ≡ best)) → Walked ts es us fs C (n + 1) r next
+    walk-more h fit some is compared (inl (t, e)) =
         record {
           in-list = omega arith;
           fits-in-list = fit .in-list;
           beyond = beyond-next n fit;
-          best-is = rw (e, is .first-is, is .second-is) (best-taken (walked .best-is) fit some (sooner-eq (is .weighs) (walked .weighs) before));
+          best-is =
+              rw (e, is .first-is, is .second-is)
+              (best-taken (walked .best-is) fit some (sooner-eq (is .weighs) (walked .weighs) (compared-before compared t)));
           weighs = rw (e, is .first-is, is .second-is) (is .weighs);
         }
-    walk-more h fit some is (inr (later, e)) =
+    walk-more h fit some is compared (inr (f, e)) =
+        let later = compared-later compared f in
         record {
           in-list = omega arith;
           fits-in-list = fit .in-list;

@@ -4,6 +4,7 @@ use paths::energy::Energy;
 use paths::seconds::Seconds;
 ghost use mathlib.Core.Path.{_≡_};
 ghost use mathlib.Core.Logic.{_⊎_};
+ghost use mathlib.Core.Bool.{true, false};
 ghost use Prim.Native.Nat.{ℕ, _+_, _-_, _≤_, _<_, _^_};
 ghost use lib.ListN.{length, getD};
 ghost use Rattle.paths.specs.Weights.{energy, pair, Sooner, NotLater};
@@ -45,22 +46,20 @@ pub fn sum_at(
     }
 }
 
-// The candidate if it comes before the best as an answer: less time, or equal time and less energy.
-fn better(best: Sum, candidate: Sum) -> Sum
+// Whether the candidate comes before the best as an answer: less time, or equal time and less energy. A test, and not the better
+// of the two: to choose between whole sums sends their places through memory at each step of the walk.
+fn comes_before(candidate: Sum, best: Sum) -> bool
     ensures { λ r.
-        ⌜ (Sooner energy (pair (candidate .time .0) (candidate .units .0)) (pair (best .time .0) (best .units .0)) × (r ≡ candidate)) ⊎
-        (NotLater energy (pair (best .time .0) (best .units .0)) (pair (candidate .time .0) (candidate .units .0)) × (r ≡ best)) ⌝ }
+        ⌜ (Sooner energy (pair (candidate .time .0) (candidate .units .0)) (pair (best .time .0) (best .units .0)) × (r ≡ true)) ⊎
+        (NotLater energy (pair (best .time .0) (best .units .0)) (pair (candidate .time .0) (candidate .units .0)) × (r ≡ false)) ⌝ }
 {
     if candidate.time.below(best.time) {
-        return candidate;
+        return true;
     }
     if best.time.below(candidate.time) {
-        return best;
+        return false;
     }
-    if candidate.units.below(best.units) {
-        return candidate;
-    }
-    best
+    candidate.units.below(best.units)
 }
 
 // Down from `from`, past the entries of the second list that do not fit beside `units` within the limit.
@@ -116,10 +115,10 @@ pub fn best_sum(
         if j == 0 {
             return Places::At(best.first, best.second);
         }
-        best = better(
-            best,
-            sum_at(times, energies, more_times, more_energies, i, j - 1),
-        );
+        let candidate = sum_at(times, energies, more_times, more_energies, i, j - 1);
+        if comes_before(candidate, best) {
+            best = candidate;
+        }
         i += 1;
     }
     Places::At(best.first, best.second)

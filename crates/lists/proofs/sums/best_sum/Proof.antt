@@ -1,5 +1,6 @@
 use Rattle.lists.proofs.Walk.{Walked, energies-add, fit-whole, walk-empty, walk-nothing, walk-starts, walk-fits, walk-more, walk-stops, walk-ends}
 -- The loop's invariant says what is known after i entries of the first list: their best sum, and that beside a later entry none of the second list from j on fits.
+use mathlib.Core.Logic.{⊎-elim, inl, inr}
 use native.Mathlib.Omega.{arith}
 use lib.ListN.{length}
 use Prim.Native.Nat.{_-_}
@@ -16,8 +17,8 @@ abbrev μ-loop : tie.MeasureT-loop
 returns : tie.Need-returns Inv-loop μ-loop
 returns c = walk-empty (c .before .before .before .before .before .pre .0) (c .before .before .before .before .before .pre .1) (c .if1 .taken)
 
-shared-slice-read-t12 : tie.Need-shared-slice-read-t12 Inv-loop μ-loop
-shared-slice-read-t12 c = search needs
+shared-slice-read-t13 : tie.Need-shared-slice-read-t13 Inv-loop μ-loop
+shared-slice-read-t13 c = search needs
 
 fitting-requires : tie.Need-fitting-requires Inv-loop μ-loop
 fitting-requires c κs =
@@ -45,11 +46,11 @@ loop-holds c =
     let s = c .sum-at .ensures in
     walk-starts (p .0) (p .1) (omega arith) (fit-whole (f .0) (f .1 .0) (f .1 .1)) (omega arith) (record { first-is = s .0; second-is = s .1 .0; weighs = s .1 .1 })
 
-mul-t14 : tie.Need-mul-t14 Inv-loop μ-loop
-mul-t14 c = search needs
+mul-t15 : tie.Need-mul-t15 Inv-loop μ-loop
+mul-t15 c = search needs
 
-shared-slice-read-t17 : tie.Need-shared-slice-read-t17 Inv-loop μ-loop
-shared-slice-read-t17 c = search needs
+shared-slice-read-t18 : tie.Need-shared-slice-read-t18 Inv-loop μ-loop
+shared-slice-read-t18 c = search needs
 
 fitting-requires-2 : tie.Need-fitting-requires-2 Inv-loop μ-loop
 fitting-requires-2 c κs =
@@ -74,23 +75,23 @@ sum-at-requires-2 c κs =
     let f = c .before .fitting2 .ensures in
     (p .0, (p .1, (omega arith, omega (arith, p .1 .one-length, f .0, w .fits-in-list))))
 
-better-requires : tie.Need-better-requires Inv-loop μ-loop
-better-requires c κs = search needs
+comes-before-requires : tie.Need-comes-before-requires Inv-loop μ-loop
+comes-before-requires c κs = search needs
 
 add-i : tie.Need-add-i Inv-loop μ-loop
-add-i c = omega (arith, c .before .before .before .before .before .loop-test .taken, c .before .before .before .before .before .before .before .before .before .before .before .before .before .before .before .before .good .0 .0)
+add-i c = omega (arith, c .before .before .before .before .before .before .loop-test .taken, c .before .before .before .before .before .before .before .before .before .before .before .before .before .before .before .before .before .good .0 .0)
 
 loop-less : tie.Need-loop-less Inv-loop μ-loop
 loop-less c = search needs
 
 loop-again : tie.Need-loop-again Inv-loop μ-loop
 loop-again c =
-    let p = c .before .before .before .before .before .before .before .before .before .before .before .before .before .before .before .before .pre in
-    let w = c .before .before .before .before .before .before .loop .inv in
-    let f = c .before .before .before .fitting2 .ensures in
-    let s = c .before .sum-at2 .ensures in
-    let h = c .before .before .before .before .before .loop-test .taken in
-    walk-more (p .0) (p .1) w h (walk-fits (p .0) (p .1) w h (f .0) (f .1 .0) (f .1 .1)) (omega (arith, c .before .before .if3 .left)) (record { first-is = s .0; second-is = s .1 .0; weighs = s .1 .1 }) (c .better .ensures)
+    let p = c .before .before .before .before .before .before .before .before .before .before .before .before .before .before .before .before .before .pre in
+    let w = c .before .before .before .before .before .before .before .loop .inv in
+    let f = c .before .before .before .before .fitting2 .ensures in
+    let s = c .before .before .sum-at2 .ensures in
+    let h = c .before .before .before .before .before .before .loop-test .taken in
+    walk-more (p .0) (p .1) w h (walk-fits (p .0) (p .1) w h (f .0) (f .1 .0) (f .1 .1)) (omega (arith, c .before .before .before .if3 .left)) (record { first-is = s .0; second-is = s .1 .0; weighs = s .1 .1 }) (c .before .comes-before .ensures) (⊎-elim (λ m. inl (m .0 .taken, m .1)) (λ m. inr (m .0 .left, m .1)) (c .if4 .came))
 
 returns-4 : tie.Need-returns-4 Inv-loop μ-loop
 returns-4 c =
@@ -103,19 +104,19 @@ best-sum-spec =
     Inv-loop
     μ-loop
     returns
-    shared-slice-read-t12
+    shared-slice-read-t13
     fitting-requires
     returns-2
     sub-sum-at
     sum-at-requires
     loop-holds
-    mul-t14
-    shared-slice-read-t17
+    mul-t15
+    shared-slice-read-t18
     fitting-requires-2
     returns-3
     sub-sum-at-2
     sum-at-requires-2
-    better-requires
+    comes-before-requires
     add-i
     loop-less
     loop-again
