@@ -1,6 +1,4 @@
 -- Why the queries answer what they are to answer. Read in this order.
-pub mod Branches
-pub mod Marks
 pub mod AnswersFrom
 pub mod LoadedLists
 pub mod MarkedSums

@@ -29,14 +29,14 @@ use Rattle.stored.specs.Scanned.{FoundList}
 use Rattle.forest.proofs.Chains.{climbed}
 use Rattle.forest.proofs.Forest.{AncestorAt, ancestor-at, above-shallower}
 use Rattle.agree.proofs.Exactness.{roads-two-way, parents-forest, roads-joined}
+use Rattle.hoplinks.specs.declared.Meeting.{Meeting}
+use Rattle.hoplinks.specs.declared.Meeting.the-variants.{At, Nowhere}
+use Rattle.hoplinks.specs.Meeting.{MeetsAt, Meets, HopMarks}
 use Rattle.query.specs.declared.Answer.{Answer}
 use Rattle.query.specs.Prepared.{Prepared}
 use Rattle.query.specs.Answers.{numberOf, timeOf, energyOf, Answers}
 use Rattle.query.specs.Answers as whole
 use Rattle.query.specs.AnswerFrom.{EntryOf, AnswerFrom, found, over-limit, not-connected}
-use Rattle.query.specs.declared.Meeting.{Meeting}
-use Rattle.query.specs.declared.Meeting.the-variants.{At, Nowhere}
-use Rattle.query.specs.Meeting.{MeetsAt, Meets, HopMarks}
 use Rattle.query.specs.Levels.{behind, MarkedSum, Branches}
 use Rattle.query.proofs.MarkedSums.{level-place}
 

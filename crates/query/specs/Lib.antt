@@ -2,7 +2,5 @@
 pub mod Ready
 pub mod Prepared
 pub mod Answers
-pub mod Meeting
-pub mod Marking
 pub mod AnswerFrom
 pub mod Levels

@@ -11,14 +11,6 @@ pub enum Answer {
     OverLimit,
 }
 
-// Where two branches of the forest meet.
-pub enum Meeting {
-    At(usize),
-    Nowhere,
-}
-
 pub mod across;
 pub mod direct;
-pub mod hoplinks;
 pub mod limited;
-pub mod meet;

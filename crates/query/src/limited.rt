@@ -1,10 +1,10 @@
 // The best answer for two junctions under a limit, from the labels alone.
 use crate::Answer;
-use crate::Meeting;
 use crate::across::across;
 use crate::direct::from_list;
-use crate::hoplinks::mark_hoplinks;
-use crate::meet::deepest;
+use hoplinks::Meeting;
+use hoplinks::hoplinks::mark_hoplinks;
+use hoplinks::meet::deepest;
 use network::bytes::u16_at;
 use paths::energy::Energy;
 use paths::seconds::Seconds;

@@ -24,8 +24,8 @@ use Rattle.stored.specs.Formed.{Formed, ListFits}
 use Rattle.stored.specs.Scanned.{FoundList}
 use Rattle.stored.proofs.Tabulate.{Stands, member-stands, tabulate-member}
 use Rattle.agree.proofs.Exactness.{parents-forest, roads-joined}
+use Rattle.hoplinks.specs.Meeting.{MeetsAt, HopMarks}
 use Rattle.query.specs.Prepared.{Prepared}
-use Rattle.query.specs.Meeting.{MeetsAt, HopMarks}
 use Rattle.query.specs.AnswerFrom.{EntryOf}
 use Rattle.query.specs.Levels.{behind, LevelSum, MarkedSum, Branches}
 use Rattle.routes.specs.Reach.{PathWithin}

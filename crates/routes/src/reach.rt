@@ -1,10 +1,10 @@
 // Whether a path takes no more than a pair in either figure: what the route's step asks. Stored lists are read where they stand.
+use hoplinks::Meeting;
+use hoplinks::hoplinks::mark_hoplinks;
+use hoplinks::meet::deepest;
 use network::bytes::u16_at;
 use paths::energy::Energy;
 use paths::seconds::Seconds;
-use query::Meeting;
-use query::hoplinks::mark_hoplinks;
-use query::meet::deepest;
 use stored::place::Place;
 use stored::place::find_list;
 use stored::stored::energy_at;

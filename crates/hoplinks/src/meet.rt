@@ -8,7 +8,7 @@ ghost use Rattle.network.specs.NetworkFile.{junctionsOf};
 ghost use Rattle.forest.specs.Forest.{depthOf};
 ghost use Rattle.forest.specs.Fits.{ParentsFit, DepthsFilled};
 ghost use Rattle.forest.specs.ParentsRead.{AncestorRead};
-ghost use Rattle.query.specs.Meeting.{Meets};
+ghost use Rattle.hoplinks.specs.Meeting.{Meets};
 
 // The ancestor of v at depth `to`; v itself where it is no deeper.
 fn raised(labels: &[u8], v: usize, from: u32, to: u32) -> usize

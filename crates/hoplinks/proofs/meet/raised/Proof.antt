@@ -1,8 +1,8 @@
 -- A junction that is no deeper stays, and a deeper one climbs by the difference.
 use borrow.Author.Needs.{needs}
-use Rattle.query.proofs.Branches.{raised-none}
-use Rattle.query.proofs.meet.raised.Statement.{statement}
-use Rattle.query.proofs.meet.raised.Tie as tie
+use Rattle.hoplinks.proofs.Branches.{raised-none}
+use Rattle.hoplinks.proofs.meet.raised.Statement.{statement}
+use Rattle.hoplinks.proofs.meet.raised.Tie as tie
 
 returns : tie.Need-returns
 returns c = search (raised-none)

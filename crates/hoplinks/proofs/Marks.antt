@@ -22,9 +22,9 @@ use Rattle.forest.specs.Fits.{ParentsFit, DepthsFilled}
 use Rattle.stored.specs.Formed.{Beside}
 use Rattle.forest.proofs.Chains.{climbed}
 use Rattle.forest.proofs.Forest.{above-shallower, above-at, is-ancestor-sound, is-ancestor-complete, low-on-map, high-on-map, joined-related}
-use Rattle.query.specs.Meeting.{HopMarks}
-use Rattle.query.specs.Marking.{OneMark, OnBranch, CrossingDepth, crosses, passes-by, RoadMark}
-use Rattle.query.proofs.Branches.{no-climb, no-deeper, shallower-ancestor, strictly-above, stays-above}
+use Rattle.hoplinks.specs.Meeting.{HopMarks}
+use Rattle.hoplinks.specs.Marking.{OneMark, OnBranch, CrossingDepth, crosses, passes-by, RoadMark}
+use Rattle.hoplinks.proofs.Branches.{no-climb, no-deeper, shallower-ancestor, strictly-above, stays-above}
 
 -- ---- A road between two junctions
 

@@ -3,10 +3,10 @@ use Prim.Native.Nat.{_≤_, _-_}
 use native.Mathlib.Omega.{arith}
 use Rattle.network.specs.RoadsRead.{FilledBelow}
 use Rattle.network.proofs.GroupedRoads.{filled-more}
-use Rattle.query.proofs.Marks.{one-mark}
+use Rattle.hoplinks.proofs.Marks.{one-mark}
 use borrow.Author.Needs.{needs}
-use Rattle.query.proofs.hoplinks.mark_itself.Statement.{statement}
-use Rattle.query.proofs.hoplinks.mark_itself.Tie as tie
+use Rattle.hoplinks.proofs.hoplinks.mark_itself.Statement.{statement}
+use Rattle.hoplinks.proofs.hoplinks.mark_itself.Tie as tie
 
 abbrev Inv-loop : tie.InvT-loop
 Inv-loop own marks₀ k₀ marks k = (k ≤ own) × FilledBelow marks 0 k

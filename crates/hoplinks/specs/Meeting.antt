@@ -7,8 +7,8 @@ use Rattle.paths.specs.Forest.{Common, Deepest, WorkingSet}
 use Rattle.network.specs.NetworkFile.{networkOf, junctionsOf}
 use Rattle.forest.specs.LabelFile.{parentsOf}
 use Rattle.forest.specs.Forest.{depthOf, ancestorOf}
-use Rattle.query.specs.declared.Meeting.{Meeting}
-use Rattle.query.specs.declared.Meeting.the-variants.{At, Nowhere}
+use Rattle.hoplinks.specs.declared.Meeting.{Meeting}
+use Rattle.hoplinks.specs.declared.Meeting.the-variants.{At, Nowhere}
 
 pub record MeetsAt (s : List ℕ) (x y l : ℕ) : Type 0 where
   pub on-map : l < junctionsOf s

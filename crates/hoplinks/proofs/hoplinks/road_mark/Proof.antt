@@ -1,10 +1,10 @@
 -- The ends are related, so the less deep one is the upper end.
-use Rattle.query.proofs.Marks.{low-branch, high-branch, low-marks, high-marks}
+use Rattle.hoplinks.proofs.Marks.{low-branch, high-branch, low-marks, high-marks}
 use native.Mathlib.Omega.{arith}
 use Rattle.network.proofs.GroupedRoads.{ends-inside}
 use borrow.Author.Needs.{needs}
-use Rattle.query.proofs.hoplinks.road_mark.Statement.{statement}
-use Rattle.query.proofs.hoplinks.road_mark.Tie as tie
+use Rattle.hoplinks.proofs.hoplinks.road_mark.Statement.{statement}
+use Rattle.hoplinks.proofs.hoplinks.road_mark.Tie as tie
 
 road-low-requires : tie.Need-road-low-requires
 road-low-requires c κs = search needs

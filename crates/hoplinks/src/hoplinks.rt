@@ -9,8 +9,8 @@ ghost use lib.ListN.{length};
 ghost use Rattle.network.specs.NetworkFile.{junctionsOf, roadsOf};
 ghost use Rattle.forest.specs.Fits.{ParentsFit, DepthsFilled};
 ghost use Rattle.stored.specs.Formed.{Beside};
-ghost use Rattle.query.specs.Meeting.{HopMarks};
-ghost use Rattle.query.specs.Marking.{OneMark, OnBranch, CrossingDepth, RoadMark};
+ghost use Rattle.hoplinks.specs.Meeting.{HopMarks};
+ghost use Rattle.hoplinks.specs.Marking.{OneMark, OnBranch, CrossingDepth, RoadMark};
 
 fn wide(x: u32) -> usize
     ensures { λ r. ⌜ r ≡ x ⌝ }

@@ -1,8 +1,8 @@
 -- A road makes its upper end a hoplink of l exactly if l stands between its ends; the depths rule most roads out.
-use Rattle.query.proofs.Marks.{upper-deep, lower-shallow, lower-elsewhere, road-crosses}
+use Rattle.hoplinks.proofs.Marks.{upper-deep, lower-shallow, lower-elsewhere, road-crosses}
 use borrow.Author.Needs.{needs}
-use Rattle.query.proofs.hoplinks.crossing_depth.Statement.{statement}
-use Rattle.query.proofs.hoplinks.crossing_depth.Tie as tie
+use Rattle.hoplinks.proofs.hoplinks.crossing_depth.Statement.{statement}
+use Rattle.hoplinks.proofs.hoplinks.crossing_depth.Tie as tie
 
 mul-own : tie.Need-mul-own
 mul-own c = search needs

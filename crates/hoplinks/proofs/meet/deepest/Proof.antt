@@ -1,9 +1,9 @@
 -- The deeper junction is raised to the depth of the other; then both climb side by side until they meet or are different roots.
 use Rattle.forest.specs.Forest.{depthOf}
-use Rattle.query.proofs.Branches.{depth-read, SideBySide, side-start, side-met, side-roots, side-less, side-more}
+use Rattle.hoplinks.proofs.Branches.{depth-read, SideBySide, side-start, side-met, side-roots, side-less, side-more}
 use borrow.Author.Needs.{needs}
-use Rattle.query.proofs.meet.deepest.Statement.{statement}
-use Rattle.query.proofs.meet.deepest.Tie as tie
+use Rattle.hoplinks.proofs.meet.deepest.Statement.{statement}
+use Rattle.hoplinks.proofs.meet.deepest.Tie as tie
 
 abbrev Inv-loop : tie.InvT-loop
 Inv-loop labels depths x y depth-x depth-y left₀ right₀ left right = SideBySide labels x y left right

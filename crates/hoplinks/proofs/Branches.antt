@@ -16,7 +16,7 @@ use Rattle.forest.specs.Fits.{ParentsFit, DepthsFilled}
 use Rattle.forest.specs.ParentsRead.{AncestorRead}
 use Rattle.forest.proofs.Chains.{ancestor-none, depth-some, one-up, climbed}
 use Rattle.forest.proofs.Forest.{above-shallower, parents-child, ancestor-is-up}
-use Rattle.query.specs.Meeting.{MeetsAt}
+use Rattle.hoplinks.specs.Meeting.{MeetsAt}
 
 -- ---- No step, and a depth read
 

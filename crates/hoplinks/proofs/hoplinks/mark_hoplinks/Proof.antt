@@ -3,11 +3,11 @@ use mathlib.Core.Path.{_∙_}
 use Prim.Native.Nat.{_-_}
 use native.Mathlib.Omega.{arith}
 use Rattle.forest.proofs.ParentLoops.{depths-small}
-use Rattle.query.proofs.Branches.{depth-read}
-use Rattle.query.proofs.Marks.{Marking, marking-start, mark-inside, marking-more, marking-end}
+use Rattle.hoplinks.proofs.Branches.{depth-read}
+use Rattle.hoplinks.proofs.Marks.{Marking, marking-start, mark-inside, marking-more, marking-end}
 use borrow.Author.Needs.{needs}
-use Rattle.query.proofs.hoplinks.mark_hoplinks.Statement.{statement}
-use Rattle.query.proofs.hoplinks.mark_hoplinks.Tie as tie
+use Rattle.hoplinks.proofs.hoplinks.mark_hoplinks.Statement.{statement}
+use Rattle.hoplinks.proofs.hoplinks.mark_hoplinks.Tie as tie
 
 abbrev Inv-loop : tie.InvT-loop
 Inv-loop net labels depths l marks₀ roads k₀ marks k = Marking net labels l marks k
