@@ -3,16 +3,15 @@ use mathlib.Core.Path.{_≡_, refl}
 use mathlib.Core.List.{List}
 use Prim.Native.Nat.{ℕ, _-_, _≤_}
 use native.Mathlib.Omega.{arith}
-use lib.ListN.{take, drop}
 use Rattle.joins.specs.Answers.{Join, LimitedJoin}
 use Rattle.forest.specs.LabelFile.{listEnd}
 use Rattle.stored.specs.Stored.{listPlace}
 use Rattle.stored.proofs.Places.{list-takes}
-use Rattle.files.specs.Shown.{Shown}
 use Rattle.files.specs.Span.{Spans, none, list, SpanFound}
 use Rattle.files.proofs.ShowLaws.{span-shown}
 use Rattle.labels.specs.Route.{Routed}
 use Rattle.labels.specs.List.{Listed}
+use Rattle.labels_c.specs.Part.{PartShown}
 
 pub route-passed :
     {net s before after : List ℕ} {x y C number time units count number′ time′ units′ count′ : ℕ} →
@@ -43,13 +42,15 @@ pub sum-passed :
 sum-passed outcome same = rw (same .0, same .1, same .2) outcome
 
 -- a part as a place and a length: where some byte is shown the place is the list's, else it is 0
-module _ {s : List ℕ} {v u start end : ℕ} (found : SpanFound s v u start end) where
-  pub part-shown : Shown s v u (take (end - start) (drop start s))
-  part-shown = span-shown found refl
-
-  pub part-place : (1 ≤ end - start → start ≡ listPlace s v u) × (end - start ≡ 0 → start ≡ 0)
-  part-place = pick (found .spans)
-    where
-      pick : Spans s v u start end → (1 ≤ end - start → start ≡ listPlace s v u) × (end - start ≡ 0 → start ≡ 0)
-      pick (none h from to) = ((λ some. absurd (omega arith)), λ z. from)
-      pick (list h from to) = ((λ some. from), λ z. absurd (omega (arith, list-takes s (listPlace s v u))))
+pub part-shown : {s : List ℕ} {v u start end : ℕ} → SpanFound s v u start end → PartShown s v u start (end - start)
+part-shown {s} {v} {u} {start} {end} found =
+    record {
+      shown = span-shown found refl;
+      inside = omega (arith, found .rises, found .inside);
+      place = λ some. pick (found .spans) .0 some;
+      empty = λ none-shown. pick (found .spans) .1 none-shown;
+    }
+  where
+    pick : Spans s v u start end → (1 ≤ end - start → start ≡ listPlace s v u) × (end - start ≡ 0 → start ≡ 0)
+    pick (none h from to) = ((λ some. absurd (omega arith)), λ z. from)
+    pick (list h from to) = ((λ some. from), λ z. absurd (omega (arith, list-takes s (listPlace s v u))))

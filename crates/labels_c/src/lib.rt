@@ -5,17 +5,14 @@ use joins::SumAnswer;
 use labels::ListAnswer;
 use labels::RouteAnswer;
 ghost use mathlib.Core.Path.{_≡_};
-ghost use Prim.Native.Nat.{_≤_};
-ghost use lib.ListN.{take, drop};
 ghost use Rattle.joins.specs.Answers.{Join, LimitedJoin, joinNumberOf, joinCountOf, sumNumberOf, sumTimeOf, sumEnergyOf};
-ghost use Rattle.stored.specs.Stored.{listPlace};
-ghost use Rattle.files.specs.Shown.{Shown};
 ghost use Rattle.labels.specs.Check.{Checked};
 ghost use Rattle.labels.specs.Batch.{BatchDone};
 ghost use Rattle.labels.specs.Route.{Routed};
 ghost use Rattle.labels.specs.RouteAnswers.{routeNumberOf, routeTimeOf, routeEnergyOf, routeCountOf};
 ghost use Rattle.labels.specs.List.{Listed};
 ghost use Rattle.labels.specs.ListAnswers.{listNumberOf, listCountOf};
+ghost use Rattle.labels_c.specs.Part.{PartShown};
 
 #[repr(C)]
 pub struct Best {
@@ -237,8 +234,7 @@ pub extern "C" fn bushelvane_limited_join(
 
 #[no_mangle]
 pub extern "C" fn bushelvane_show(labels: &[u8], v: u32, u: u32) -> Part
-    ensures { λ r. ⌜ Shown (now (labels .entry)) v u (take (r .length) (drop (r .at) (now (labels .entry)))) ⌝ }
-    ensures { λ r. ⌜ (1 ≤ r .length → r .at ≡ listPlace (now (labels .entry)) v u) × (r .length ≡ 0 → r .at ≡ 0) ⌝ }
+    ensures { λ r. ⌜ PartShown (now (labels .entry)) v u (r .at) (r .length) ⌝ }
 {
     let span = files::show::span_of(labels, v, u);
     let start = span.start;

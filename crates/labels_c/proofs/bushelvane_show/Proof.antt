@@ -1,5 +1,5 @@
 -- Show, its part as a place and a length.
-use Rattle.labels_c.proofs.Passed.{part-shown, part-place}
+use Rattle.labels_c.proofs.Passed.{part-shown}
 use borrow.Author.Needs.{needs}
 use Rattle.labels_c.proofs.bushelvane_show.Statement.{statement}
 use Rattle.labels_c.proofs.bushelvane_show.Tie as tie
@@ -11,7 +11,7 @@ sub-t7 : tie.Need-sub-t7
 sub-t7 c = search needs
 
 returns : tie.Need-returns
-returns c = (search (part-shown), search (part-place))
+returns c = search (part-shown)
 
 pub bushelvane-show-spec : {M : Type 1} → statement M
 bushelvane-show-spec = tie.close (tie.spec span-of-requires sub-t7 returns)

@@ -1,0 +1,2 @@
+-- What the C functions state that the calls do not.
+pub mod Part
