@@ -1,2 +1,3 @@
 // The test of one stored list by the lists one road further.
 pub mod agree;
+pub mod cover;

@@ -3,7 +3,7 @@
 -- In this order: places; order; the two slices of the entries; places of sums.
 use mathlib.Core.Path.{_≡_, refl, sym, ap, ap₂, subst, _∙_}
 use mathlib.Core.Logic.{_⊎_, inl, inr}
-use mathlib.Core.List.{List, [], _∷_, List·Memᴰ, List·Memᴰ·head, List·Memᴰ·tail, List·Memᴰ·cases-cons, List·Memᴰ·not-nil, Memᴰ·cast}
+use mathlib.Core.List.{List, [], _∷_, List·Memᴰ, List·Memᴰ·head, List·Memᴰ·tail, List·Memᴰ·cases-cons, List·Memᴰ·not-nil}
 use Prim.Native.Nat.{ℕ, zero, suc, _+_, _≤_, _<_}
 use native.Mathlib.Decide.{ℕ-discrete}
 use native.Mathlib.Omega.{arith}
@@ -52,14 +52,10 @@ index-member (t ∷ ts) [] i h k = absurd (omega arith)
 index-member (t ∷ ts) (e ∷ es) zero h k = List·Memᴰ·head refl
 index-member (t ∷ ts) (e ∷ es) (suc i) h k = List·Memᴰ·tail (index-member ts es i (omega arith) (omega arith))
 
--- the same from the record
-pub atIndex-member : {ts es : List ℕ} {p : Weight} → AtIndex ts es p → List·Memᴰ p (entries ts es)
-atIndex-member {ts} {es} z = Memᴰ·cast (sym (z .is)) (index-member ts es (z .place) (z .in-times) (z .in-energies))
-
 -- ---- Order
 
 -- what holds from each place to the next, and passes on, holds of any two places
-far :
+pub far :
     (Before : ℕ → ℕ → Type 0) → ((i j k : ℕ) → Before i j → Before j k → Before i k) → (n : ℕ) → ((i : ℕ) → suc i < n → Before i (suc i)) →
     (i j : ℕ) → i < j → j < n → Before i j
 far Before passes n step i zero h k = absurd (omega arith)

@@ -1,0 +1,106 @@
+-- The list of a neighbour: it is 𝟘 alone at the ancestor itself, else it is stored with the deeper of the two, and its entries are what is left.
+-- In this order: neighbours are related; what is left; the list that is stored.
+use mathlib.Core.Path.{_≡_, sym, _∙_}
+use mathlib.Core.Logic.{inl, inr}
+use mathlib.Core.List.{List, [], _∷_, List·Memᴰ, List·Memᴰ·head, List·Memᴰ·eq-of-singleton}
+use Prim.Native.Nat.{ℕ, _<_}
+use native.Mathlib.Omega.{arith}
+use lib.ListN.{getD}
+use Rattle.paths.specs.Weights.{pair}
+use Rattle.paths.specs.Forest.{Parents, Above, Related}
+use Rattle.paths.proofs.Forest.{above-trans, above-irrefl, ancestor-trans, ancestors-related}
+use Rattle.paths.proofs.LabelTest.{arrived, below, above}
+use Rattle.lists.specs.Entries.{Weight}
+use Rattle.network.specs.NetworkFile.{junctionsOf, roadTime, roadEnergy, RoadArc}
+use Rattle.network.specs.Roads.{otherEnd}
+use Rattle.network.proofs.RoadsAt.{touches-arc, other-on-map}
+use Rattle.forest.specs.LabelFile.{parentsOf}
+use Rattle.forest.proofs.Forest.{above-at}
+use Rattle.stored.specs.Stored.{listAt, stored}
+use Rattle.stored.specs.Formed.{ListFits, Beside}
+use Rattle.agree.specs.Agreeing.{RoadInput, Left}
+use Rattle.agree.proofs.Exactness.{stored-fits, parents-forest, roads-joined}
+
+-- ---- Neighbours are related
+
+-- a neighbour of a junction is related to each ancestor of that junction
+neighbour-related : {parent : Parents} {v u w : ℕ} → Above parent u v → Related parent v w → Related parent w u
+neighbour-related h (inl k) = inr (ancestor-trans (inr h) k)
+neighbour-related h (inr k) = ancestors-related k (inr h)
+
+module _ {net s : List ℕ} (beside : Beside net s) where
+  -- no junction is above itself, nor two above each other
+  not-same : {x y : ℕ} → x ≡ y → Above (parentsOf s) x y → ⊥
+  not-same e h = above-irrefl (parents-forest beside) (rw e at h)
+
+  not-both : {x y : ℕ} → Above (parentsOf s) x y → Above (parentsOf s) y x → ⊥
+  not-both h k = above-irrefl (parents-forest beside) (above-trans h k)
+
+-- ---- What is left
+
+-- The entries of a list are what is left from w to u
+pub record Leaves (net s : List ℕ) (w u : ℕ) (list : List Weight) : Type 0 where
+  pub entry-left : {q : Weight} → List·Memᴰ q list → Left net s w u q
+  pub left-entry : {q : Weight} → Left net s w u q → List·Memᴰ q list
+
+module _ {net s : List ℕ} (beside : Beside net s) {w u : ℕ} where
+  -- at the ancestor itself nothing is left
+  pub leaves-nothing : w ≡ u → Leaves net s w u (pair 0 0 ∷ [])
+  leaves-nothing e = record { entry-left = λ m. arrived e (List·Memᴰ·eq-of-singleton m); left-entry = λ left. held left }
+    where
+      held : {q : Weight} → Left net s w u q → List·Memᴰ q (pair 0 0 ∷ [])
+      held (arrived f none) = List·Memᴰ·head none
+      held (below k m) = absurd (not-same beside (sym e) k)
+      held (above k m) = absurd (not-same beside e k)
+
+  -- below it the neighbour has the list
+  leaves-below : Above (parentsOf s) u w → Leaves net s w u (stored s w u)
+  leaves-below k = record { entry-left = λ m. below k m; left-entry = λ left. held left }
+    where
+      held : {q : Weight} → Left net s w u q → List·Memᴰ q (stored s w u)
+      held (arrived f none) = absurd (not-same beside (sym f) k)
+      held (below l m) = m
+      held (above l m) = absurd (not-both beside k l)
+
+  -- above it the ancestor has the list
+  leaves-above : Above (parentsOf s) w u → Leaves net s w u (stored s u w)
+  leaves-above k = record { entry-left = λ m. above k m; left-entry = λ left. held left }
+    where
+      held : {q : Weight} → Left net s w u q → List·Memᴰ q (stored s u w)
+      held (arrived f none) = absurd (not-same beside f k)
+      held (below l m) = absurd (not-both beside k l)
+      held (above l m) = m
+
+-- ---- The list that is stored
+
+-- The list at a byte fits, and is what is left from w to u
+pub record RestAt (net s : List ℕ) (w u at : ℕ) : Type 0 where
+  pub fits : ListFits s at
+  pub leaves : Leaves net s w u (listAt s at)
+
+module _ {net s places : List ℕ} {v u k w : ℕ} (input : RoadInput net s places v u k) (leads-to : w ≡ otherEnd net v k) where
+  -- the road as an arc
+  pub the-arc : RoadArc net v w k (pair (roadTime net k) (roadEnergy net k))
+  the-arc = rw leads-to (touches-arc (input .beside .network) v k (input .stands) (input .here))
+
+  -- the neighbour is a junction
+  on-map : w < junctionsOf s
+  on-map = omega (arith, leads-to, other-on-map (input .beside .network) v k (input .stands) (input .here), input .beside .one-map)
+
+  -- and has a place in the table, as the ancestor has
+  pub neighbour-index : (w < 1024) × (u < 1024)
+  neighbour-index =
+      omega (arith, on-map, above-at (input .beside .labels .parents) (input .above) .on-map, input .beside .labels .parents .few-junctions)
+
+  -- where it is not the ancestor itself, the table has the byte of the list
+  pub neighbour-rest : {at : ℕ} → (w ≡ u → ⊥) → at ≡ getD places w 0 → RestAt net s w u at
+  unfolding stored
+  neighbour-rest {at} apart at-is = pick (neighbour-related (input .above) (roads-joined (input .beside) .joined the-arc))
+    where
+      pick : Related (parentsOf s) w u → RestAt net s w u at
+      pick (inl (inl e)) = absurd (apart e)
+      pick (inl (inr k)) =
+          rw (at-is ∙ input .places-for .above w on-map k) (record { fits = stored-fits (input .beside .labels) k; leaves = leaves-above (input .beside) k })
+      pick (inr (inl e)) = absurd (apart (sym e))
+      pick (inr (inr k)) =
+          rw (at-is ∙ input .places-for .below w on-map k) (record { fits = stored-fits (input .beside .labels) k; leaves = leaves-below (input .beside) k })
