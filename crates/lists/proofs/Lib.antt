@@ -3,5 +3,4 @@ pub mod Entries
 pub mod Tests
 pub mod Leading
 pub mod Walk
-pub mod Marks
 pub mod JoinBackwards

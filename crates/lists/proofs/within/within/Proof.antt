@@ -1,26 +1,26 @@
+-- `lists::within::within` is right: every entry before the count is within the limit; the first that is not, or the end, stops it.
 use Rattle.lists.proofs.Leading.{Passed, passed-more, passed-stops}
--- The loop's invariant says that every entry before the count is within the limit; the first that is not, or the end, stops it.
 use native.Mathlib.Omega.{arith}
 use lib.ListN.{length}
 use Prim.Native.Nat.{_-_}
 use borrow.Author.Needs.{needs}
-use Rattle.lists.proofs.within.within_from.Statement.{statement}
-use Rattle.lists.proofs.within.within_from.Tie as tie
+use Rattle.lists.proofs.within.within.Statement.{statement}
+use Rattle.lists.proofs.within.within.Tie as tie
 
 abbrev Inv-loop : tie.InvT-loop
-Inv-loop energies limit hint count₀ count = Passed energies (limit .0) count
+Inv-loop energies limit count₀ count = Passed energies (limit .0) count
 
 abbrev μ-loop : tie.MeasureT-loop
-μ-loop energies limit hint count₀ count = length energies - count
+μ-loop energies limit count₀ count = length energies - count
 
 loop-holds : tie.Need-loop-holds Inv-loop μ-loop
 loop-holds c = search needs
 
-mul-t5 : tie.Need-mul-t5 Inv-loop μ-loop
-mul-t5 c = search needs
+mul-t4 : tie.Need-mul-t4 Inv-loop μ-loop
+mul-t4 c = search needs
 
-shared-slice-read-t9 : tie.Need-shared-slice-read-t9 Inv-loop μ-loop
-shared-slice-read-t9 c = search needs
+shared-slice-read-t8 : tie.Need-shared-slice-read-t8 Inv-loop μ-loop
+shared-slice-read-t8 c = search needs
 
 below-requires : tie.Need-below-requires Inv-loop μ-loop
 below-requires c κs = search needs
@@ -40,15 +40,15 @@ loop-again c = passed-more (c .before .before .before .before .loop .inv) (c .be
 returns-2 : tie.Need-returns-2 Inv-loop μ-loop
 returns-2 c = search needs
 
-pub within-from-spec : {M : Type 1} → statement M
-within-from-spec =
+pub within-spec : {M : Type 1} → statement M
+within-spec =
     tie.close
     (tie.spec
     Inv-loop
     μ-loop
     loop-holds
-    mul-t5
-    shared-slice-read-t9
+    mul-t4
+    shared-slice-read-t8
     below-requires
     returns
     add-count
