@@ -21,7 +21,8 @@ below-requires c κs = search needs
 returns-2 : tie.Need-returns-2
 returns-2 c =
     let read = c .before .before in
-    compared-slower (read .before .before .before .pre .0) _ (read .time-at .ensures) (ltb-true _ _ (sym (c .before .below .ensures) ∙ c .if2 .taken))
+    let slower = sym (c .before .below .ensures) ∙ c .if2 .taken in
+    compared-slower (read .before .before .before .pre .0) _ (read .time-at .ensures) (omega (arith, ltb-true))
 
 energy-at-requires : tie.Need-energy-at-requires
 energy-at-requires c κs =

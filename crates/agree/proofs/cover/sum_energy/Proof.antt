@@ -1,4 +1,5 @@
 -- `agree::cover::sum_energy` is right: the entry stands in the file, and a road's energy and a stored one together fit 32 bits.
+use native.Mathlib.Omega.{arith}
 use Rattle.agree.proofs.CoverSteps.{energy-inside, energy-adds}
 use borrow.Author.Needs.{needs}
 use Rattle.agree.proofs.cover.sum_energy.Statement.{statement}
@@ -12,7 +13,7 @@ energy-at-requires c κs =
 plus-requires : tie.Need-plus-requires
 plus-requires c κs =
     let pre = c .before .before .pre in
-    energy-adds (pre .0) (pre .1 .0) (pre .1 .1) (c .energy-at .ensures)
+    omega (arith, energy-adds (pre .0) (pre .1 .0) (pre .1 .1) (c .energy-at .ensures))
 
 returns : tie.Need-returns
 returns c = search needs

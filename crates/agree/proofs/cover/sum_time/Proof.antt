@@ -1,4 +1,5 @@
 -- `agree::cover::sum_time` is right: the entry stands in the file, and a road's time and a stored one together fit 32 bits.
+use native.Mathlib.Omega.{arith}
 use Rattle.agree.proofs.CoverSteps.{time-inside, time-adds}
 use borrow.Author.Needs.{needs}
 use Rattle.agree.proofs.cover.sum_time.Statement.{statement}
@@ -12,7 +13,7 @@ time-at-requires c κs =
 plus-requires : tie.Need-plus-requires
 plus-requires c κs =
     let pre = c .before .before .pre in
-    time-adds (pre .0) (pre .1 .0) (pre .1 .1) (c .time-at .ensures)
+    omega (arith, time-adds (pre .0) (pre .1 .0) (pre .1 .1) (c .time-at .ensures))
 
 returns : tie.Need-returns
 returns c = search needs
