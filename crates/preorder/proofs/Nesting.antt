@@ -1,0 +1,250 @@
+-- Blocks inside the parents' blocks, those of one parent apart, make a numbering.
+-- In this order: blocks that nest; blocks of one depth are apart; a block holds exactly the descendants; the numbering.
+use mathlib.Core.Path.{_≡_, refl, sym, ap, _∙_}
+use mathlib.Core.Logic.{_⊎_, inl, inr, ⊎-elim}
+use mathlib.Core.List.{List}
+use Prim.Native.Nat.{ℕ, zero, suc, _+_, _-_, _*_, _≤_, _<_}
+use native.Mathlib.Decide.{ℕ-discrete, decLt}
+use native.Mathlib.Omega.{arith}
+use lib.ListN.{length, getD}
+use Rattle.paths.specs.Forest.{Above, parent-is, parent-has, Ancestor}
+use Rattle.network.specs.NetworkFile.{junctionsOf}
+use Rattle.forest.specs.LabelFile.{parentAt, parentsOf}
+use Rattle.forest.specs.Forest.{depthOf, ancestorOf}
+use Rattle.forest.specs.Fits.{ParentsFit}
+use Rattle.forest.proofs.Chains.{IsRoot, root?, depth-none, depth-some, Climbed, one-up, climbed}
+use Rattle.forest.proofs.Forest.{parents-some, ancestor-is-up, above-is-up}
+use Rattle.preorder.specs.Numbered.{Numbered}
+use Rattle.preorder.specs.Blocks.{Apart, AllMerged, Placed, Spread, Listed}
+use Rattle.preorder.proofs.Onto.{Hit, onto}
+
+-- ---- Blocks that nest
+
+-- The block of v lies in the block of u, behind its first place
+record Inside (spots sizes : List ℕ) (u v : ℕ) : Type 0 where
+  behind : getD spots u 0 < getD spots v 0
+  within : getD spots v 0 + getD sizes v 0 ≤ getD spots u 0 + getD sizes u 0
+
+-- Every block lies in its parent's, a root's below n, and those of one parent are apart
+record Nested (s spots sizes : List ℕ) : Type 0 where
+  itself : (v : ℕ) → v < junctionsOf s → 1 ≤ getD sizes v 0
+  of-root : (v : ℕ) → v < junctionsOf s → IsRoot s v → getD spots v 0 + getD sizes v 0 ≤ junctionsOf s
+  of-child : (v : ℕ) → v < junctionsOf s → (IsRoot s v → ⊥) → Inside spots sizes (parentAt s v) v
+  apart : (u v : ℕ) → u < junctionsOf s → v < junctionsOf s → parentAt s u ≡ parentAt s v → (u ≡ v → ⊥) → Apart spots sizes u v
+
+-- blocks at the spots that the offsets lead to nest
+nested :
+    {s spots sizes offsets : List ℕ} →
+    ParentsFit s →
+    AllMerged s sizes offsets →
+    Placed s offsets spots (junctionsOf s) 0 →
+    Nested s spots sizes
+nested {s} {spots} {sizes} {offsets} fit merged placed =
+    record {
+      itself = merged .itself;
+      of-root = λ v h root. omega (arith, placed .of-root v h (high v h) root, merged .of-root v h (deep v h) root);
+      of-child = λ v h child. record {
+        behind = omega (arith, placed .of-child v h (high v h) child, merged .of-child v h (deep v h) child);
+        within = omega (arith, placed .of-child v h (high v h) child, merged .of-child v h (deep v h) child);
+      };
+      apart = λ u v h k same other. pick u v h k same other (root? s u) (merged .apart u v h k (deep u h) (deep v k) same other);
+    }
+  where
+    deep : (v : ℕ) → v < junctionsOf s → 1024 * 0 + v < 1024 * depthOf s v + 1024
+    deep v h = omega (arith, fit .few-junctions)
+
+    high : (v : ℕ) → v < junctionsOf s → 1024 * depthOf s v + v < 1024 * junctionsOf s + 0
+    high v h = omega (arith, fit .few-junctions, fit .ends v h)
+
+    -- siblings start behind the same place
+    moved : (x u v : ℕ) → getD spots u 0 ≡ x + getD offsets u 0 → getD spots v 0 ≡ x + getD offsets v 0 → Apart offsets sizes u v → Apart spots sizes u v
+    moved x u v e f = ⊎-elim (λ h. inl (omega arith)) (λ h. inr (omega arith))
+
+    pick :
+        (u v : ℕ) →
+        u < junctionsOf s →
+        v < junctionsOf s →
+        parentAt s u ≡ parentAt s v →
+        (u ≡ v → ⊥) →
+        Dec (IsRoot s u) →
+        Apart offsets sizes u v →
+        Apart spots sizes u v
+    pick u v h k same other (yes root) =
+        moved 0 u v (omega (arith, placed .of-root u h (high u h) root)) (omega (arith, placed .of-root v k (high v k) (sym same ∙ root)))
+    pick u v h k same other (no child) =
+        moved
+        (getD spots (parentAt s u) 0)
+        u
+        v
+        (placed .of-child u h (high u h) child)
+        (rw same (placed .of-child v k (high v k) (λ root. child (same ∙ root))))
+
+module _ {s spots sizes : List ℕ} (fit : ParentsFit s) (nest : Nested s spots sizes) where
+  -- an ancestor's block holds the blocks below it
+  above-inside : {u v : ℕ} → Above (parentsOf s) u v → Inside spots sizes u v
+  above-inside {u} (parent-is {v} e) =
+      let h = parents-some s e in rw (h .parent) at (nest .of-child v (h .on-map) (h .no-root))
+  above-inside {u} (parent-has {v} {w} e above) =
+      let h = parents-some s e in
+      let near : Inside spots sizes w v = rw (h .parent) at (nest .of-child v (h .on-map) (h .no-root)) in
+      let far = above-inside above in
+      record { behind = omega (arith, near .behind, far .behind); within = omega (arith, near .within, far .within) }
+
+  -- ---- Blocks of one depth are apart
+
+  level-apart :
+      (d u v : ℕ) →
+      u < junctionsOf s →
+      v < junctionsOf s →
+      depthOf s u ≡ d →
+      depthOf s v ≡ d →
+      (u ≡ v → ⊥) →
+      Apart spots sizes u v
+  level-apart zero u v h k e f other =
+      nest .apart u v h k (depth-none s u e (fit .ends u h) ∙ sym (depth-none s v f (fit .ends v k))) other
+  level-apart (suc d) u v h k e f other =
+      pick
+      (ℕ-discrete (parentAt s u) (parentAt s v))
+      (level-apart
+      d
+      (parentAt s u)
+      (parentAt s v)
+      (up-u .on-map)
+      (up-v .on-map)
+      (omega (arith, up-u .depth))
+      (omega (arith, up-v .depth)))
+    where
+      u-child : IsRoot s u → ⊥
+      u-child = depth-some s u (omega arith)
+
+      v-child : IsRoot s v → ⊥
+      v-child = depth-some s v (omega arith)
+
+      up-u : Climbed s u 1 (parentAt s u)
+      up-u = one-up fit u h u-child
+
+      up-v : Climbed s v 1 (parentAt s v)
+      up-v = one-up fit v k v-child
+
+      pick :
+          Dec (parentAt s u ≡ parentAt s v) →
+          ((parentAt s u ≡ parentAt s v → ⊥) → Apart spots sizes (parentAt s u) (parentAt s v)) →
+          Apart spots sizes u v
+      pick (yes same) further = nest .apart u v h k same other
+      pick (no away) further =
+          let in-u = nest .of-child u h u-child in
+          let in-v = nest .of-child v k v-child in
+          ⊎-elim
+          (λ z. inl (omega (arith, in-u .within, in-v .behind)))
+          (λ z. inr (omega (arith, in-v .within, in-u .behind)))
+          (further away)
+
+  -- ---- A block holds exactly the descendants
+
+  -- Place x lies in the block of u
+  abbrev Holds : ℕ → ℕ → Type 0
+  Holds u x = (getD spots u 0 ≤ x) × (x < getD spots u 0 + getD sizes u 0)
+
+  -- an ancestor's block holds the spot of v
+  in-block : (u v : ℕ) → v < junctionsOf s → Ancestor (parentsOf s) u v → Holds u (getD spots v 0)
+  in-block u v h (inl e) = rw e (omega arith, omega (arith, nest .itself v h))
+  in-block u v h (inr above) =
+      let z = above-inside above in (omega (arith, z .behind), omega (arith, z .within, nest .itself v h))
+
+  -- of one depth only one block holds it
+  one-holds : (u v x : ℕ) → u < junctionsOf s → v < junctionsOf s → depthOf s u ≡ depthOf s v → Holds u x → Holds v x → u ≡ v
+  one-holds u v x h k level p q = pick (ℕ-discrete u v)
+    where
+      pick : Dec (u ≡ v) → u ≡ v
+      pick (yes same) = same
+      pick (no other) =
+          absurd (⊎-elim (λ z. omega arith) (λ z. omega arith) (level-apart (depthOf s v) u v h k level refl other))
+
+  -- so the one that holds the spot of v is an ancestor: it is no deeper, as what holds the spot there would start behind v
+  block-below : (u v : ℕ) → u < junctionsOf s → v < junctionsOf s → Holds u (getD spots v 0) → Ancestor (parentsOf s) u v
+  block-below u v h k held = pick (decLt (depthOf s v) (depthOf s u))
+    where
+      pick : Dec (depthOf s v < depthOf s u) → Ancestor (parentsOf s) u v
+      pick (no level) =
+          let above = ancestor-is-up fit (depthOf s v - depthOf s u) v k (omega arith) in
+          let at = climbed fit (depthOf s v - depthOf s u) v k (omega arith) in
+          rw
+          (one-holds
+          (ancestorOf s v (depthOf s v - depthOf s u))
+          u
+          (getD spots v 0)
+          (at .on-map)
+          h
+          (omega (arith, at .depth))
+          (in-block (ancestorOf s v (depthOf s v - depthOf s u)) v k above)
+          held)
+          at above
+      pick (yes deeper) =
+          let inside = above-inside (above-is-up fit (depthOf s u - depthOf s v) u h (omega arith) (omega arith)) in
+          let at = climbed fit (depthOf s u - depthOf s v) u h (omega arith) in
+          let same =
+          one-holds
+          (ancestorOf s u (depthOf s u - depthOf s v))
+          v
+          (getD spots v 0)
+          (at .on-map)
+          k
+          (omega (arith, at .depth))
+          (omega (arith, inside .behind), omega (arith, inside .within))
+          (omega arith, omega (arith, nest .itself v k)) in
+          absurd (omega (arith, inside .behind, ap (λ w. getD spots w 0) same))
+
+  -- ---- The numbering
+
+  -- every block lies below n
+  block-inside : (d v : ℕ) → v < junctionsOf s → depthOf s v ≡ d → getD spots v 0 + getD sizes v 0 ≤ junctionsOf s
+  block-inside zero v h e = nest .of-root v h (depth-none s v e (fit .ends v h))
+  block-inside (suc d) v h e =
+      let child = depth-some s v (omega arith) in
+      let up = one-up fit v h child in
+      omega (arith, nest .of-child v h child .within, block-inside d (parentAt s v) (up .on-map) (omega (arith, up .depth)))
+
+  -- no two junctions have one spot, as each block would hold the other's
+  spread : Spread (junctionsOf s) spots
+  spread =
+      record {
+        few = fit .few-junctions;
+        below = λ v h. omega (arith, block-inside (depthOf s v) v h refl, nest .itself v h);
+        once = λ u v h k e. ⊎-elim (λ same. same) (λ above. absurd (omega (arith, above-inside above .behind))) (block-below u v h k (omega arith, omega (arith, nest .itself u h)));
+      }
+
+  -- with the junctions listed by their spots, it is whole
+  numbered :
+      {order : List ℕ} → length spots ≡ 1024 → length sizes ≡ 1024 → Listed spots order (junctionsOf s) → Numbered s spots sizes order
+  numbered {order} spot-places size-places listed =
+      record {
+        spots-length = spot-places;
+        sizes-length = size-places;
+        order-length = listed .places;
+        at-spot = listed .at-spot;
+        spot-below = spread .below;
+        on-map = λ i h. let z = hit i h in rw (stands z) (z .below);
+        spot-of = λ i h. let z = hit i h in rw (stands z) (z .is);
+        block-inside = λ v h. block-inside (depthOf s v) v h refl;
+        in-block = λ u v h k. in-block u v k;
+        block-below = λ u v h k from to. block-below u v h k (from, to);
+      }
+    where
+      -- every spot is some junction's
+      hit : (i : ℕ) → i < junctionsOf s → Hit (λ v. getD spots v 0) (junctionsOf s) i
+      hit = onto (λ v. getD spots v 0) (junctionsOf s) (spread .below) (spread .once)
+
+      stands : {i : ℕ} (z : Hit (λ v. getD spots v 0) (junctionsOf s) i) → getD order i 0 ≡ z .at
+      stands z = rw (← z .is) (listed .at-spot (z .at) (z .below))
+
+-- what merging and placing leave
+module _
+    {s spots sizes offsets : List ℕ} {n : ℕ} (fit : ParentsFit s) (merged : AllMerged s sizes offsets)
+    (placed : Placed s offsets spots (junctionsOf s) 0) (size : n ≡ junctionsOf s)
+  where
+    pub placed-spread : Spread n spots
+    placed-spread = rw size (spread fit (nested fit merged placed))
+
+    pub listed-numbered : {order : List ℕ} → Listed spots order n → Numbered s spots sizes order
+    listed-numbered listed =
+        numbered fit (nested fit merged placed) (placed .places) (merged .size-places) (rw size at listed)

@@ -1,0 +1,170 @@
+-- Spots are found from the roots down.
+-- In this order: no junction yet; one junction more; a level; the order.
+use mathlib.Core.Path.{_≡_, refl, ap, _∙_}
+use mathlib.Core.List.{List}
+use Prim.Native.Nat.{ℕ, _+_, _*_, _≤_, _<_}
+use native.Mathlib.Decide.{ℕ-discrete, decLt}
+use native.Mathlib.Omega.{arith}
+use lib.ListN.{length, getD, set, length-set}
+use lib.Seq.{getD-set-same, getD-set-other}
+use Rattle.network.specs.NetworkFile.{junctionsOf}
+use Rattle.forest.specs.LabelFile.{parentAt, noParent}
+use Rattle.forest.specs.Forest.{depthOf}
+use Rattle.forest.specs.Fits.{ParentsFit}
+use Rattle.forest.proofs.Chains.{Climbed, one-up}
+use Rattle.preorder.specs.Levels.{First, Higher}
+use Rattle.preorder.specs.Blocks.{OffsetsSmall, Placed, Spread, Listed}
+
+-- ---- No junction yet
+
+pub placed-none : {s offsets spots : List ℕ} → length spots ≡ 1024 → Placed s offsets spots 0 0
+placed-none places =
+    record {
+      places = places;
+      of-root = λ w h done. absurd (omega arith);
+      of-child = λ w h done. absurd (omega arith);
+      small = λ w h done. absurd (omega arith);
+    }
+
+-- ---- One junction more
+
+module _
+    {s offsets spots : List ℕ} {v : ℕ} (fit : ParentsFit s) (below : v < junctionsOf s) (few : OffsetsSmall s offsets)
+    (now : Placed s offsets spots (depthOf s v) v)
+  where
+    -- what is done then was done before, or is v
+    earlier : (w : ℕ) → w < junctionsOf s → (w ≡ v → ⊥) → Higher s (depthOf s v) (v + 1) w → Higher s (depthOf s v) v w
+    earlier w h other done = omega (arith, fit .few-junctions)
+
+    -- the parent of what is done is higher, so it is not v
+    module _ (w : ℕ) (h : w < junctionsOf s) (done : Higher s (depthOf s v) (v + 1) w) (child : parentAt s w ≡ noParent → ⊥) where
+      up : Climbed s w 1 (parentAt s w)
+      up = one-up fit w h child
+
+      parent-other : parentAt s w ≡ v → ⊥
+      parent-other e = omega (arith, up .depth, ap (depthOf s) e, fit .few-junctions)
+
+    module _ (x : ℕ) where
+      put : getD (set spots v x) v 0 ≡ x
+      put = getD-set-same spots v x 0 (omega (arith, now .places, fit .few-junctions))
+
+      stays : (w : ℕ) → (w ≡ v → ⊥) → getD (set spots v x) w 0 ≡ getD spots w 0
+      stays w other = getD-set-other spots v w x 0 other
+
+      -- with the spot that v is to have, one more is placed
+      placed-more :
+          x ≤ 1024 * (depthOf s v + 1) →
+          (parentAt s v ≡ noParent → x ≡ getD offsets v 0) →
+          ((parentAt s v ≡ noParent → ⊥) → x ≡ getD spots (parentAt s v) 0 + getD offsets v 0) →
+          Placed s offsets (set spots v x) (depthOf s v) (v + 1)
+      placed-more bound as-root as-child =
+          record {
+            places = length-set spots v x ∙ now .places;
+            of-root = λ w h done root. of-root w h done root (ℕ-discrete w v);
+            of-child = λ w h done child. rw (stays (parentAt s w) (parent-other w h done child)) (of-child w h done child (ℕ-discrete w v));
+            small = λ w h done. small w h done (ℕ-discrete w v);
+          }
+        where
+          of-root :
+              (w : ℕ) →
+              w < junctionsOf s →
+              Higher s (depthOf s v) (v + 1) w →
+              parentAt s w ≡ noParent →
+              Dec (w ≡ v) →
+              getD (set spots v x) w 0 ≡ getD offsets w 0
+          of-root w h done root (yes same) = rw (same, put) (as-root (rw same at root))
+          of-root w h done root (no other) = stays w other ∙ now .of-root w h (earlier w h other done) root
+
+          of-child :
+              (w : ℕ) →
+              w < junctionsOf s →
+              Higher s (depthOf s v) (v + 1) w →
+              (parentAt s w ≡ noParent → ⊥) →
+              Dec (w ≡ v) →
+              getD (set spots v x) w 0 ≡ getD spots (parentAt s w) 0 + getD offsets w 0
+          of-child w h done child (yes same) = rw (same, put) (as-child (rw same at child))
+          of-child w h done child (no other) = stays w other ∙ now .of-child w h (earlier w h other done) child
+
+          small :
+              (w : ℕ) → w < junctionsOf s → Higher s (depthOf s v) (v + 1) w → Dec (w ≡ v) → getD (set spots v x) w 0 ≤ 1024 * (depthOf s w + 1)
+          small w h done (yes same) = rw (same, put) bound
+          small w h done (no other) = rw (stays w other) (now .small w h (earlier w h other done))
+
+    -- a root stands at its offset
+    pub placed-root : parentAt s v ≡ noParent → Placed s offsets (set spots v (getD offsets v 0)) (depthOf s v) (v + 1)
+    placed-root root = placed-more (getD offsets v 0) (omega (arith, few .small v below)) (λ is. refl) (λ child. absurd (child root))
+
+    -- a child behind its parent
+    module _ {p : ℕ} (is : p ≡ parentAt s v) (child : p ≡ noParent → ⊥) where
+      above : Climbed s v 1 p
+      above = rw is (one-up fit v below (λ root. child (is ∙ root)))
+
+      pub parent-inside : p < 1024
+      parent-inside = omega (arith, above .on-map, fit .few-junctions)
+
+      pub spot-small : getD spots p 0 + getD offsets v 0 ≤ 1024 * (depthOf s v + 1)
+      spot-small =
+          let higher : Higher s (depthOf s v) v p = omega (arith, above .depth, parent-inside) in
+          omega (arith, above .depth, now .small p (above .on-map) higher, few .small v below)
+
+      pub placed-child : Placed s offsets (set spots v (getD spots p 0 + getD offsets v 0)) (depthOf s v) (v + 1)
+      placed-child =
+          placed-more (getD spots p 0 + getD offsets v 0) spot-small (λ root. absurd (child (is ∙ root))) (λ other. rw is)
+
+-- ---- A level
+
+-- two names of one depth
+pub placed-as : {s offsets spots : List ℕ} {d e v : ℕ} → Placed s offsets spots d v → d ≡ e → Placed s offsets spots e v
+placed-as now same = rw same at now
+
+module _ {s offsets spots : List ℕ} where
+  -- no more are placed
+  placed-fewer :
+      {d v e x : ℕ} →
+      ((w : ℕ) → w < junctionsOf s → Higher s e x w → Higher s d v w) →
+      Placed s offsets spots d v →
+      Placed s offsets spots e x
+  placed-fewer back now =
+      record {
+        places = now .places;
+        of-root = λ w h done. now .of-root w h (back w h done);
+        of-child = λ w h done. now .of-child w h (back w h done);
+        small = λ w h done. now .small w h (back w h done);
+      }
+
+  module _ {d : ℕ} (fit : ParentsFit s) where
+    -- it goes on at the next junction of the same depth, and ends behind the last
+    pub placed-next : {v r : ℕ} → Placed s offsets spots d v → First s d v r → Placed s offsets spots d r
+    placed-next {v} {r} now first =
+        placed-fewer (λ w h done. pick w h done (decLt (1024 * depthOf s w + w) (1024 * d + v))) now
+      where
+        pick : (w : ℕ) → w < junctionsOf s → Higher s d r w → Dec (Higher s d v w) → Higher s d v w
+        pick w h done (yes before) = before
+        pick w h done (no behind) =
+            let level : depthOf s w ≡ d = omega (arith, first .few, first .from-on, fit .few-junctions) in
+            absurd (first .skips w (omega arith) (omega arith) h level)
+
+    pub placed-end : {v : ℕ} → Placed s offsets spots d v → junctionsOf s ≤ v → Placed s offsets spots (d + 1) 0
+    placed-end now past = placed-fewer (λ w h done. omega arith) now
+
+-- ---- The order
+
+-- the order, spot by spot: each junction has a spot of its own
+pub listed-more :
+    {spots order : List ℕ} {n v spot : ℕ} →
+    Spread n spots →
+    Listed spots order v →
+    v < n →
+    spot ≡ getD spots v 0 →
+    Listed spots (set order spot v) (v + 1)
+listed-more {spots} {order} {n} {v} {spot} spread now below is =
+    record { places = length-set order spot v ∙ now .places; at-spot = λ w h. pick w h (ℕ-discrete w v) }
+  where
+    pick : (w : ℕ) → w < v + 1 → Dec (w ≡ v) → getD (set order spot v) (getD spots w 0) 0 ≡ w
+    pick w h (yes same) =
+        rw (same, ← is) (getD-set-same order spot v 0 (omega (arith, now .places, spread .below v below, spread .few)))
+    pick w h (no other) =
+        getD-set-other order spot (getD spots w 0) v 0 (λ e. other (spread .once w v (omega arith) below (e ∙ is))) ∙ now .at-spot w (omega arith)
+
+pub listed-all : {spots order : List ℕ} {n v : ℕ} → Listed spots order v → n ≤ v → Listed spots order n
+listed-all now all = record { places = now .places; at-spot = λ w h. now .at-spot w (omega arith) }

@@ -1,0 +1,74 @@
+-- Blocks are merged from the deepest level up and placed from the roots down, so they nest and are apart; then they are listed by spot.
+use Prim.Native.Nat.{ℕ}
+use lib.ListN.{length-replicate, getD-replicate}
+use Rattle.preorder.proofs.Levels.{levels-none, levels-all}
+use Rattle.preorder.proofs.Merging.{merged-none, offsets-small}
+use Rattle.preorder.proofs.Nesting.{placed-spread, listed-numbered}
+use borrow.Author.Needs.{needs}
+use Rattle.preorder.proofs.number.number.Statement.{statement}
+use Rattle.preorder.proofs.number.number.Tie as tie
+
+u16-at-requires : tie.Need-u16-at-requires
+u16-at-requires c κs = search needs
+
+cast-n : tie.Need-cast-n
+cast-n c = search needs
+
+chain-levels-requires : tie.Need-chain-levels-requires
+chain-levels-requires c κs =
+    let start = c .before .before .before .before .before in (
+      start .pre .0,
+      (
+        start .pre .1 .0,
+        levels-none
+            (start .pre .0 .few-junctions)
+            (length-replicate {A = ℕ} 1024 1024)
+            (λ d h. getD-replicate {A = ℕ} 1024 d 1024 0 h)
+            (length-replicate {A = ℕ} 1024 0)
+            (start .pre .1 .1 .1),
+      ),
+    )
+
+merge-all-requires : tie.Need-merge-all-requires
+merge-all-requires c κs =
+    let start = c .before .before .before .before .before .before .before .before .before .before in
+    let levels = c .before .before .before .before .chain-levels .ensures in
+    (start .pre .0, (levels-all levels, merged-none (start .pre .0) levels (length-replicate {A = ℕ} 1024 0)))
+
+place-all-requires : tie.Need-place-all-requires
+place-all-requires c κs =
+    let start = c .before .before .before .before .before .before .before .before .before .before .before .before .before .before .before in (
+      (start .pre .0, offsets-small (start .pre .0) (c .before .before .before .before .merge-all .ensures)),
+      (levels-all (c .before .before .before .before .before .before .before .before .before .chain-levels .ensures), start .pre .1 .1 .0),
+    )
+
+list-order-requires : tie.Need-list-order-requires
+list-order-requires c κs =
+    let start = c .before .before .before .before .before .before .before .before .before .before .before .before .before .before .before .before .before .before in
+    let placed = c .before .before .place-all .ensures in (
+      placed-spread (start .pre .0) (c .before .before .before .before .before .before .before .merge-all .ensures) placed (c .before .before .before .before .before .before .before .before .before .before .before .before .before .before .before .before .u16-at .ensures .is),
+      placed .places,
+      start .pre .1 .1 .2,
+    )
+
+returns : tie.Need-returns
+returns c =
+    let start = c .before .before .before .before .before .before .before .before .before .before .before .before .before .before .before .before .before .before .before in
+    listed-numbered
+    (start .pre .0)
+    (c .before .before .before .before .before .before .before .before .merge-all .ensures)
+    (c .before .before .before .place-all .ensures)
+    (c .before .before .before .before .before .before .before .before .before .before .before .before .before .before .before .before .before .u16-at .ensures .is)
+    (c .list-order .ensures)
+
+pub number-spec : {M : Type 1} → statement M
+number-spec =
+    tie.close
+    (tie.spec
+    u16-at-requires
+    cast-n
+    chain-levels-requires
+    merge-all-requires
+    place-all-requires
+    list-order-requires
+    returns)
