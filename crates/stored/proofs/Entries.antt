@@ -177,7 +177,7 @@ module _ (s : List ℕ) (at : ℕ) where
   -- ---- The list
 
   -- with a count that stands and fits, the entries decide
-  list-by-entries :
+  pub list-by-entries :
       {number : ℕ} → at + 2 ≤ length s → countAt s at ≤ mostCount → number ≡ firstFault (entryNumber s at) 0 (countAt s at) →
       number ≡ listNumber s at
   unfolding listNumber

@@ -5,3 +5,4 @@ pub mod Lists
 pub mod Faults
 pub mod Entries
 pub mod Scan
+pub mod ShortLists

@@ -45,6 +45,12 @@ module _ (s : List ℕ) where
   unfolding further
   further-none at = refl
 
+  -- i lists behind the k-th are k + i lists
+  pub further-add : (at k i : ℕ) → further s (further s at k) i ≡ further s at (k + i)
+  unfolding further
+  further-add at k zero = rw (add-zero k)
+  further-add at k (suc i) = rw (add-suc k i, further-add at k i)
+
   -- a later list stands further on, by the two bytes of a count at least
   pub further-rises : (at : ℕ) {i k : ℕ} → i < k → further s at i + 2 ≤ further s at k
   unfolding further
@@ -54,6 +60,11 @@ module _ (s : List ℕ) where
       pick : (i < k → further s at i + 2 ≤ further s at k) → Dec (i ≡ k) → further s at i + 2 ≤ listEnd s (further s at k)
       pick f (yes e) = rw e (list-takes (further s at k))
       pick f (no apart) = omega (arith, f (omega arith), list-takes (further s at k))
+
+  -- no list stands before the first
+  pub further-later : (at k : ℕ) → at ≤ further s at k
+  further-later at zero = omega (arith, further-none at)
+  further-later at (suc k) = omega (arith, further-rises at {i = 0} {k = suc k} (omega arith), further-none at)
 
   -- Of k moves from list to list, beginning at byte `at`, i are made: the place is at byte `here`
   pub record Moved (at k i here : ℕ) : Type 0 where

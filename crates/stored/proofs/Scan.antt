@@ -16,10 +16,10 @@ use Rattle.stored.specs.Stored.{listsBefore, listsOf, placeOf, startOf, 
 use Rattle.stored.specs.ListForm.{listNumber, listsNumber}
 use Rattle.forest.specs.Fits.{ParentsFit, DepthsFilled}
 use Rattle.stored.specs.Formed.{StartsFilled}
-use Rattle.stored.specs.Scanned.{further, ScannedSome, Scanned}
-use Rattle.stored.proofs.Faults.{decided-fault, faults-joined, faults-moved}
+use Rattle.stored.specs.Scanned.{further, ScannedSome, PassedSome, Scanned}
+use Rattle.stored.proofs.Faults.{decided-fault, faults-joined, faults-moved, fault-behind}
 use Rattle.stored.proofs.Lists.{list-fits}
-use Rattle.stored.proofs.Places.{list-takes, further-none, further-next, further-place, listsBefore-next, lists-of-junction, place-counts}
+use Rattle.stored.proofs.Places.{list-takes, further-none, further-next, further-add, further-later, further-place, listsBefore-next, lists-of-junction, place-counts}
 
 -- ---- The lists of one junction
 
@@ -31,62 +31,92 @@ numberFurther s at i = listNumber s (further s at i)
 pub list-stands : (s : List ℕ) (here : ℕ) {number : ℕ} → number ≡ listNumber s here → number ≡ 0 → here + 2 ≤ length s
 list-stands s here e zero-is = omega (arith, list-takes s here, list-fits s here (sym e ∙ zero-is) .inside)
 
-module _ (s : List ℕ) (at depth total : ℕ) where
-  -- Of `depth` lists from byte `at` on k are passed, none with a fault: the next is at byte `here`
-  pub record Passed (k here sum : ℕ) : Type 0 where
-    pub few : k ≤ depth
-    pub place : here ≡ further s at k
-    pub inside : here ≤ length s
-    pub counted : at + 2 * k + 8 * sum ≡ here + 8 * total
-    pub left : firstFault (numberFurther s at) 0 depth ≡ faultsFrom (numberFurther s at) depth k
-
+module _ (s : List ℕ) (at lists total : ℕ) where
   -- before the first list
-  pub passed-none : at ≤ length s → Passed 0 at total
+  pub passed-none : at ≤ length s → PassedSome s at lists total 0 at total
+  unfolding firstFault
   passed-none inside =
       record {
         few = omega arith;
+        none = refl;
         place = sym (further-none s at);
         inside = inside;
         counted = omega arith;
-        left = ap (firstFault (numberFurther s at) 0) (omega arith);
       }
 
-  -- a list with a fault refuses
-  pub passed-fault :
-      {k here sum number : ℕ} → Passed k here sum → k < depth → number ≡ listNumber s here → (number ≡ 0 → ⊥) →
-      ScannedSome s at depth total number 0 0
-  passed-fault {k} {here} {number} passed h e apart =
-      record { is = decides; place = λ z. absurd (apart z); inside = λ z. absurd (apart z); counted = λ z. absurd (apart z) }
-    where
-      here-is : number ≡ listNumber s (further s at k)
-      here-is = e ∙ ap (listNumber s) (passed .place)
+  module _ {k here sum : ℕ} (run : PassedSome s at lists total k here sum) where
+    -- the lists behind those that are passed decide
+    behind-decide : firstFault (numberFurther s at) 0 lists ≡ faultsFrom (numberFurther s at) lists k
+    behind-decide = fault-behind (numberFurther s at) (run .few) (run .none)
 
-      decides : number ≡ firstFault (numberFurther s at) 0 depth
-      decides = here-is ∙ sym (passed .left ∙ fault-here (numberFurther s at) h (λ z. apart (here-is ∙ z)))
+    -- a list with a fault refuses
+    pub passed-fault :
+        {number : ℕ} → k < lists → number ≡ listNumber s here → (number ≡ 0 → ⊥) → ScannedSome s at lists total number 0 0
+    passed-fault {number} h e apart =
+        record { is = decides; place = λ z. absurd (apart z); inside = λ z. absurd (apart z); counted = λ z. absurd (apart z) }
+      where
+        number-is : number ≡ listNumber s (further s at k)
+        number-is = e ∙ ap (listNumber s) (run .place)
 
-  -- a list without fault is passed
-  pub passed-more :
-      {k here sum number count next : ℕ} → Passed k here sum → k < depth → number ≡ listNumber s here → number ≡ 0 →
-      count ≡ countAt s here → next ≡ listEnd s here → Passed (k + 1) next (sum + count)
-  unfolding listEnd
-  passed-more {k} {here} passed h e zero-is is-count is-next =
-      record {
-        few = omega arith;
-        place = is-next ∙ ap (listEnd s) (passed .place) ∙ sym (further-next s at k);
-        inside = omega (arith, list-fits s here (sym e ∙ zero-is) .inside);
-        counted = omega (arith, passed .counted);
-        left = passed .left ∙ fault-next (numberFurther s at) h (ap (listNumber s) (sym (passed .place)) ∙ sym e ∙ zero-is);
-      }
+        decides : number ≡ firstFault (numberFurther s at) 0 lists
+        decides = number-is ∙ sym (behind-decide ∙ fault-here (numberFurther s at) h (λ z. apart (number-is ∙ z)))
 
-  -- all are passed
-  pub passed-all : {k here sum : ℕ} → Passed k here sum → depth ≤ k → ScannedSome s at depth total 0 here sum
-  passed-all {k} passed h =
-      record {
-        is = sym (passed .left ∙ fault-end (numberFurther s at) h);
-        place = λ z. passed .place ∙ ap (further s at) (omega arith);
-        inside = λ z. passed .inside;
-        counted = λ z. omega (arith, passed .counted);
-      }
+    -- a list without fault is passed
+    pub passed-more :
+        {number count next : ℕ} → k < lists → number ≡ listNumber s here → number ≡ 0 → count ≡ countAt s here → next ≡ listEnd s here →
+        PassedSome s at lists total (k + 1) next (sum + count)
+    unfolding listEnd
+    passed-more h e zero-is is-count is-next =
+        record {
+          few = omega arith;
+          none = all-behind ∙ fault-next (numberFurther s at) {n = k + 1} (omega arith) fits ∙ fault-end (numberFurther s at) {n = k + 1} (omega arith);
+          place = is-next ∙ ap (listEnd s) (run .place) ∙ sym (further-next s at k);
+          inside = omega (arith, list-fits s here (sym e ∙ zero-is) .inside);
+          counted = omega (arith, run .counted);
+        }
+      where
+        fits : numberFurther s at k ≡ 0
+        fits = ap (listNumber s) (sym (run .place)) ∙ sym e ∙ zero-is
+
+        all-behind : firstFault (numberFurther s at) 0 (k + 1) ≡ faultsFrom (numberFurther s at) (k + 1) k
+        all-behind = fault-behind (numberFurther s at) (omega arith) (run .none)
+
+    -- all are passed
+    pub passed-all : lists ≤ k → ScannedSome s at lists total 0 here sum
+    passed-all h =
+        record {
+          is = sym (behind-decide ∙ fault-end (numberFurther s at) h);
+          place = λ z. run .place ∙ ap (further s at) (omega (arith, run .few));
+          inside = λ z. run .inside;
+          counted = λ z. omega (arith, run .counted, run .few);
+        }
+
+    -- the entries counted are no more than the bytes, if they were so before
+    pub passed-counts : total ≤ at → sum ≤ here
+    passed-counts h = omega (arith, run .counted, run .place, further-later s at k)
+
+    -- those that are left decide
+    pub passed-left :
+        {left number behind total-behind : ℕ} → left ≡ lists - k → ScannedSome s here left sum number behind total-behind →
+        ScannedSome s at lists total number behind total-behind
+    passed-left {left} is-left scanned =
+        record {
+          is = scanned .is ∙ moved ∙ sym behind-decide;
+          place = λ z. scanned .place z ∙ last-place;
+          inside = scanned .inside;
+          counted = λ z. omega (arith, run .counted, scanned .counted z, run .few);
+        }
+      where
+        same : (i : ℕ) → further s here i ≡ further s at (k + i)
+        same i = ap (λ p. further s p i) (run .place) ∙ further-add s at k i
+
+        moved : firstFault (numberFurther s here) 0 left ≡ faultsFrom (numberFurther s at) lists k
+        moved =
+            faults-moved (numberFurther s here) (numberFurther s at) k (λ i. ap (listNumber s) (same i)) left 0 ∙
+            rw (add-zero k, is-left)
+
+        last-place : further s here left ≡ further s at lists
+        last-place = same left ∙ ap (further s at) (omega (arith, run .few))
 
 -- ---- The lists of all junctions
 

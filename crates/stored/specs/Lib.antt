@@ -3,3 +3,4 @@ pub mod Stored
 pub mod ListForm
 pub mod Formed
 pub mod Scanned
+pub mod Runs

@@ -57,6 +57,14 @@ pub record ScannedSome (s : List ℕ) (at k total : ℕ) (number behind sum : �
   pub inside : number ≡ 0 → behind ≤ length s
   pub counted : number ≡ 0 → at + 2 * k + 8 * sum ≡ behind + 8 * total
 
+-- Of so many lists from byte `at` on the first k are passed, none with a fault
+pub record PassedSome (s : List ℕ) (at lists total : ℕ) (k behind sum : ℕ) : Type 0 where
+  pub few : k ≤ lists
+  pub none : firstFault (λ i. listNumber s (further s at i)) 0 k ≡ 0
+  pub place : behind ≡ further s at k
+  pub inside : behind ≤ length s
+  pub counted : at + 2 * k + 8 * sum ≡ behind + 8 * total
+
 -- After all lists: their number and, if that is 0, the byte behind the last, all entries, and where each junction's lists start
 pub record Scanned (s starts : List ℕ) (number at total : ℕ) : Type 0 where
   pub is : number ≡ listsNumber s

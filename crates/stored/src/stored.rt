@@ -1,5 +1,7 @@
 // Stored lists: which number one is refused by, one pass over all of them, and loading one into lent slices.
 use crate::place::Place;
+use crate::runs::pass_short;
+use crate::runs::pass_single;
 use network::bytes::u16_at;
 use network::bytes::u32_at;
 use paths::energy::Energy;
@@ -18,9 +20,9 @@ const MOST_COUNT: usize = 4095;
 // "each 1 to 67,042,305": the least time, the least energy and the most of either
 const LEAST_TIME: u32 = 1;
 
-const LEAST_ENERGY: u32 = 1;
+pub const LEAST_ENERGY: u32 = 1;
 
-const MOST_FIGURE: u32 = 67042305;
+pub const MOST_FIGURE: u32 = 67042305;
 
 // The time of entry j of the list at a byte.
 pub fn time_at(labels: &[u8], at: usize, j: usize) -> Seconds
@@ -39,7 +41,7 @@ pub fn energy_at(labels: &[u8], at: usize, j: usize) -> Energy
 }
 
 // A time in range, and below what stands before it.
-fn time_fits(ceiling: Seconds, time: Seconds) -> bool
+pub fn time_fits(ceiling: Seconds, time: Seconds) -> bool
     ensures { λ r. ⌜ r ≡ timeBelow (ceiling .0) (time .0) ⌝ }
 {
     if !Seconds(LEAST_TIME).at_most(time) {
@@ -52,7 +54,7 @@ fn time_fits(ceiling: Seconds, time: Seconds) -> bool
 }
 
 // An energy in range, and above what stands before it.
-fn energy_fits(floor: Energy, energy: Energy) -> bool
+pub fn energy_fits(floor: Energy, energy: Energy) -> bool
     ensures { λ r. ⌜ r ≡ energyFrom (floor .0) (energy .0) ⌝ }
 {
     if !energy.at_most(Energy(MOST_FIGURE)) {
@@ -154,16 +156,16 @@ pub struct Scan {
     pub total: usize,
 }
 
-// Passes over the lists of one junction, as many as its depth.
-fn scan_junction(labels: &[u8], at: usize, depth: u32, total: usize) -> Scan
+// Passes over so many lists, whatever their lengths.
+fn scan_some(labels: &[u8], at: usize, lists: u32, total: usize) -> Scan
     requires { ⌜ (at ≤ length (now labels)) × (length (now labels) ≤ mostBytes) ⌝ }
     requires { ⌜ total ≤ at ⌝ }
-    ensures { λ r. ⌜ ScannedSome (now (labels .entry)) at depth total (r .number) (r .at) (r .total) ⌝ }
+    ensures { λ r. ⌜ ScannedSome (now (labels .entry)) at lists total (r .number) (r .at) (r .total) ⌝ }
 {
     let mut place = Place { at: at };
     let mut sum = total;
     let mut k: u32 = 0;
-    while k < depth {
+    while k < lists {
         let here = place.at;
         let number = list_number(labels, here);
         if number != 0 {
@@ -183,6 +185,18 @@ fn scan_junction(labels: &[u8], at: usize, depth: u32, total: usize) -> Scan
         at: behind,
         total: sum,
     }
+}
+
+// Passes over the lists of one junction, as many as its depth: a run of single entries, a run of short lists, and what is left.
+fn scan_junction(labels: &[u8], at: usize, depth: u32, total: usize) -> Scan
+    requires { ⌜ (at ≤ length (now labels)) × (length (now labels) ≤ mostBytes) ⌝ }
+    requires { ⌜ total ≤ at ⌝ }
+    ensures { λ r. ⌜ ScannedSome (now (labels .entry)) at depth total (r .number) (r .at) (r .total) ⌝ }
+{
+    let single = pass_single(labels, at, depth, total);
+    let short = pass_short(labels, single.at, depth - single.lists, single.total);
+    let left = depth - single.lists - short.lists;
+    scan_some(labels, short.at, left, short.total)
 }
 
 // Passes over all lists once, and notes where each junction's start.

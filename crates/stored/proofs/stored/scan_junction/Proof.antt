@@ -1,63 +1,47 @@
--- The invariant: k lists are passed, none with a fault, and the entries counted make up the bytes passed.
-use Prim.Native.Nat.{_-_}
+-- Each run leaves the lists behind it to the next step, and what is left of them is passed whole.
+use mathlib.Core.Path.{refl}
+use native.Mathlib.Omega.{arith}
+use Rattle.stored.proofs.Scan.{passed-counts, passed-left}
 use borrow.Author.Needs.{needs}
-use Rattle.stored.proofs.Scan.{Passed, passed-none, passed-fault, list-stands, passed-more, passed-all}
 use Rattle.stored.proofs.stored.scan_junction.Statement.{statement}
 use Rattle.stored.proofs.stored.scan_junction.Tie as tie
 
-abbrev Inv-loop : tie.InvT-loop
-Inv-loop labels at depth total place₀ sum₀ k₀ place sum k = Passed labels at depth total k (place .at) sum
+pass-single-requires : tie.Need-pass-single-requires
+pass-single-requires c κs = search needs
 
-abbrev μ-loop : tie.MeasureT-loop
-μ-loop labels at depth total place₀ sum₀ k₀ place sum k = depth - k
+sub-pass-short : tie.Need-sub-pass-short
+sub-pass-short c = search needs
 
-loop-holds : tie.Need-loop-holds Inv-loop μ-loop
-loop-holds c = passed-none _ _ _ _ (c .before .pre .0 .0)
+pass-short-requires : tie.Need-pass-short-requires
+pass-short-requires c κs = omega (arith, passed-counts _ _ _ _ (c .before .pass-single .ensures) (c .before .before .before .pre .1))
 
-list-number-requires : tie.Need-list-number-requires Inv-loop μ-loop
-list-number-requires c κs = search needs
+sub-left : tie.Need-sub-left
+sub-left c = search needs
 
-returns : tie.Need-returns Inv-loop μ-loop
-returns c = search (passed-fault, needs)
+sub-left-2 : tie.Need-sub-left-2
+sub-left-2 c = search needs
 
-count-requires : tie.Need-count-requires Inv-loop μ-loop
-count-requires c κs = search (list-stands, needs)
+scan-some-requires : tie.Need-scan-some-requires
+scan-some-requires c κs =
+    let short = c .before .before in
+    let single = short .before .before in
+    let counts = passed-counts _ _ _ _ (single .pass-single .ensures) (single .before .before .pre .1) in
+    omega (arith, passed-counts _ _ _ _ (short .pass-short .ensures) counts)
 
-cast-sum : tie.Need-cast-sum Inv-loop μ-loop
-cast-sum c = search needs
-
-add-sum : tie.Need-add-sum Inv-loop μ-loop
-add-sum c = search needs
-
-next-requires : tie.Need-next-requires Inv-loop μ-loop
-next-requires c κs = search (list-stands, needs)
-
-add-k : tie.Need-add-k Inv-loop μ-loop
-add-k c = search needs
-
-loop-less : tie.Need-loop-less Inv-loop μ-loop
-loop-less c = search needs
-
-loop-again : tie.Need-loop-again Inv-loop μ-loop
-loop-again c = search (passed-more, needs)
-
-returns-2 : tie.Need-returns-2 Inv-loop μ-loop
-returns-2 c = search (passed-all, needs)
+returns : tie.Need-returns
+returns c =
+    let short = c .before .before .before in
+    passed-left _ _ _ _ (short .before .before .pass-single .ensures) refl
+    (passed-left _ _ _ _ (short .pass-short .ensures) refl (c .scan-some .ensures))
 
 pub scan-junction-spec : {M : Type 1} → statement M
 scan-junction-spec =
     tie.close
     (tie.spec
-    Inv-loop
-    μ-loop
-    loop-holds
-    list-number-requires
-    returns
-    count-requires
-    cast-sum
-    add-sum
-    next-requires
-    add-k
-    loop-less
-    loop-again
-    returns-2)
+    pass-single-requires
+    sub-pass-short
+    pass-short-requires
+    sub-left
+    sub-left-2
+    scan-some-requires
+    returns)

@@ -1,0 +1,153 @@
+-- Runs of short lists: the laws of the two loops. In this order: two entries; a list of entries that keep the rules; a run and one list more.
+use mathlib.Core.Path.{_≡_, refl, sym, ap, _∙_}
+use mathlib.Core.Bool.{Bool, true, false, not}
+use mathlib.Core.List.{List}
+use Prim.Native.Nat.{ℕ, zero, suc, _+_, _-_, _*_, _≤_, _<_}
+use native.Mathlib.Omega.{arith}
+use lib.Dec.{leb, ltb}
+use lib.ListN.{length}
+use borrow.Author.Tests.{leb-true, ltb-true, lt-ltb, not-false}
+use Rattle.refusals.proofs.Order.{all-pass}
+use Rattle.forest.specs.LabelFile.{countAt, timeAt, energyAt, listEnd}
+use Rattle.stored.specs.ListForm.{mostFigure, entryNumber, listNumber}
+use Rattle.stored.specs.Scanned.{timeBelow, energyFrom, PassedSome}
+use Rattle.stored.specs.Runs.{Flagged, EnergyFollows, Leading, SingleList, Quick, OneMore}
+use Rattle.stored.proofs.Lists.{fits-entry, rules-energy}
+use Rattle.stored.proofs.Entries.{time-tested, energy-tested, list-by-entries}
+use Rattle.stored.proofs.Scan.{passed-none, passed-more}
+
+-- ---- Two entries
+
+-- a product of numbers up to 1 is at most 1, and 1 only if both are
+pub product-small : (a b : ℕ) → a ≤ 1 → b ≤ 1 → a * b ≤ 1
+product-small zero b h k = omega arith
+product-small (suc zero) b h k = omega arith
+product-small (suc (suc a)) b h k = absurd (omega arith)
+
+product-both : (a b : ℕ) → a ≤ 1 → 1 ≤ a * b → (1 ≤ a) × (1 ≤ b)
+product-both zero b h k = absurd (omega arith)
+product-both (suc zero) b h k = (omega arith, omega arith)
+product-both (suc (suc a)) b h k = absurd (omega arith)
+
+-- a product of flags is a flag of both facts
+pub both-flagged : {p q : Type 0} {a b : ℕ} → Flagged p a → Flagged q b → Flagged (p × q) (a * b)
+both-flagged {a = a} {b} one two =
+    record {
+      small = product-small a b (one .small) (two .small);
+      holds = λ h. let some = product-both a b (one .small) h in (one .holds (some .0), two .holds (some .1));
+    }
+
+-- a flag of a fact is one of what follows from it
+flagged-so : {p q : Type 0} {r : ℕ} → (p → q) → Flagged p r → Flagged q r
+flagged-so f flagged = record { small = flagged .small; holds = λ h. f (flagged .holds h) }
+
+-- what the two tests of an energy tell
+pub energy-follows : {before e : ℕ} {x y : Bool} → x ≡ leb e mostFigure → not x ≡ false → y ≡ ltb before e → y ≡ true → EnergyFollows before e
+energy-follows {before} {e} {x} small passed rises holds =
+    record { most = leb-true e mostFigure (sym small ∙ not-false x passed); rises = ltb-true before e (sym rises ∙ holds) }
+
+module _ (s : List ℕ) (at : ℕ) where
+  -- a first entry whose flag is 1 keeps the rules
+  pub first-flagged :
+      {x y : Bool} {t e r : ℕ} → at + 10 ≤ length s → t ≡ timeAt s at 0 → x ≡ timeBelow (suc mostFigure) t → e ≡ energyAt s at 0 →
+      y ≡ energyFrom 1 e → Flagged ((x ≡ true) × (y ≡ true)) r → Flagged (entryNumber s at 0 ≡ 0) r
+  first-flagged inside is-time timed is-energy tested =
+      flagged-so
+      (λ hold.
+      fits-entry
+      (record {
+        inside = omega arith;
+        time-fits = sym (time-tested s at 0 refl is-time timed) ∙ hold .0;
+        energy-fits = sym (energy-tested s at 0 refl is-energy tested) ∙ hold .1;
+      }))
+
+  -- and so does a second
+  pub second-flagged :
+      {x y : Bool} {t e r before-time before-energy : ℕ} → at + 18 ≤ length s → before-time ≡ timeAt s at 0 → t ≡ timeAt s at 1 →
+      x ≡ timeBelow before-time t → before-energy ≡ energyAt s at 0 → e ≡ energyAt s at 1 → (y ≡ true → EnergyFollows before-energy e) →
+      Flagged ((x ≡ true) × (y ≡ true)) r → Flagged (entryNumber s at 1 ≡ 0) r
+  second-flagged inside is-before is-time timed is-first is-energy follows =
+      flagged-so
+      (λ hold.
+      let kept = follows (hold .1) in
+      fits-entry
+      (record {
+        inside = omega arith;
+        time-fits = sym (time-tested s at 1 is-before is-time timed) ∙ hold .0;
+        energy-fits =
+            rules-energy
+            (record {
+              least = omega (arith, kept .rises);
+              most = omega (arith, kept .most);
+              follows = lt-ltb (energyAt s at 0) (energyAt s at 1) (omega (arith, kept .rises));
+            });
+      }))
+
+-- the first entry counts by itself, and the second with the first
+pub leading-counted :
+    {s : List ℕ} {at first second : ℕ} → Flagged (entryNumber s at 0 ≡ 0) first → Flagged (entryNumber s at 1 ≡ 0) second →
+    Leading s at (first + first * second)
+leading-counted {s} {at} {first} {second} one two = record { few = omega (arith, one .small, small); fit = fit }
+  where
+    small : first * second ≤ 1
+    small = product-small first second (one .small) (two .small)
+
+    fit : (j : ℕ) → j < first + first * second → entryNumber s at j ≡ 0
+    fit zero h = one .holds (some first h)
+      where
+        some : (a : ℕ) → 0 < a + a * second → 1 ≤ a
+        some zero l = absurd (omega arith)
+        some (suc a) l = omega arith
+    fit (suc zero) h = two .holds (product-both first second (one .small) (omega (arith, one .small)) .1)
+    fit (suc (suc j)) h = absurd (omega (arith, one .small, small))
+
+-- ---- A list of entries that keep the rules
+
+-- a list no longer than the entries that keep the rules has no fault
+pub short-passes :
+    {s : List ℕ} {at lead count : ℕ} → Leading s at lead → at + 2 ≤ length s → count ≡ countAt s at → count ≤ lead → listNumber s at ≡ 0
+short-passes {s} {at} leads inside is short =
+    sym
+    (list-by-entries s at inside (omega (arith, leads .few))
+    (sym (all-pass (entryNumber s at) (countAt s at) (λ j h l. leads .fit j (omega arith)))))
+
+-- a list of one entry that keeps the rules
+pub single-passes :
+    {s : List ℕ} {at count : ℕ} → at + 10 ≤ length s → count ≡ countAt s at → count ≡ 1 → entryNumber s at 0 ≡ 0 → SingleList s at
+single-passes {s} {at} inside is one fits = record { one = sym is ∙ one; fits = short-passes lead (omega arith) is (omega arith) }
+  where
+    first : (j : ℕ) → j < 1 → entryNumber s at j ≡ 0
+    first zero h = fits
+    first (suc j) h = absurd (omega arith)
+
+    lead : Leading s at 1
+    lead = record { few = omega arith; fit = first }
+
+-- ---- A run and one list more
+
+-- Of the lists that a run may pass k are passed, and there is room for those left though each has two entries
+pub record Running (s : List ℕ) (at lists total : ℕ) (end : ℕ) (k here sum : ℕ) : Type 0 where
+  pub run : PassedSome s at lists total k here sum
+  pub reach : end ≤ lists
+  pub few : k ≤ end
+  pub room : here + 18 * (end - k) ≤ length s
+
+module _ {s : List ℕ} {at lists total end : ℕ} where
+  -- before the first list
+  pub running-none : at ≤ length s → Quick (length s - at) lists end → Running s at lists total end 0 at total
+  running-none inside quick =
+      record { run = passed-none s at lists total inside; reach = quick .few; few = omega arith; room = omega (arith, quick .inside) }
+
+  -- a short list without fault is passed
+  pub running-more :
+      {k here sum count more next counted : ℕ} → Running s at lists total end k here sum → k < end → listNumber s here ≡ 0 →
+      count ≡ countAt s here → count ≤ 2 → OneMore k here sum count more next counted → Running s at lists total end more next counted
+  unfolding listEnd
+  running-more {k} {here} running h fits is short step =
+      rw (step .listed, step .counted)
+      (record {
+        run = passed-more s at lists total (running .run) (omega (arith, running .reach)) (sym fits) refl is (step .place ∙ ap (λ n. here + 2 + 8 * n) is);
+        reach = running .reach;
+        few = omega arith;
+        room = omega (arith, running .room, step .place);
+      })

@@ -1,0 +1,167 @@
+// Runs of short lists, passed with few tests: lists of one entry each, and lists of at most two. A list that ends a run is left to the whole test.
+use crate::stored::LEAST_ENERGY;
+use crate::stored::MOST_FIGURE;
+use crate::stored::energy_at;
+use crate::stored::energy_fits;
+use crate::stored::time_at;
+use crate::stored::time_fits;
+use network::bytes::u16_at;
+use paths::energy::Energy;
+use paths::seconds::Seconds;
+ghost use mathlib.Core.Path.{_≡_};
+ghost use mathlib.Core.Bool.{true};
+ghost use Prim.Native.Nat.{_+_, _*_, _≤_, _<_};
+ghost use lib.ListN.{length};
+ghost use Rattle.stored.specs.ListForm.{mostBytes, mostCount, entryNumber};
+ghost use Rattle.stored.specs.Scanned.{PassedSome};
+ghost use Rattle.stored.specs.Runs.{Flagged, EnergyFollows, Leading, SingleList, Quick, OneMore};
+
+// A count and two entries.
+const SHORT_BYTES: usize = 18;
+
+// Lists that are passed one after another, none with a fault: how many, the byte behind them, and the entries counted.
+pub struct Run {
+    pub lists: u32,
+    pub at: usize,
+    pub total: usize,
+}
+
+impl Run {
+    // One list more, of so many entries.
+    fn more(self, count: u32) -> Run
+        requires { ⌜ (self .at ≤ mostBytes) × (self .total ≤ mostBytes) ⌝ }
+        requires { ⌜ (self .lists < mostBytes) × (count ≤ mostCount) ⌝ }
+        ensures { λ r. ⌜ OneMore (self .lists) (self .at) (self .total) count (r .lists) (r .at) (r .total) ⌝ }
+    {
+        let entries = count as usize;
+        Run {
+            lists: self.lists + 1,
+            at: self.at + 2 + 8 * entries,
+            total: self.total + entries,
+        }
+    }
+}
+
+// 1 for true. Tests that are multiplied have no branch that could be guessed wrong.
+fn flag(test: bool) -> u32
+    ensures { λ r. ⌜ Flagged (test ≡ true) r ⌝ }
+{
+    if test {
+        return 1;
+    }
+    0
+}
+
+// 1 if both are true.
+fn both(one: bool, other: bool) -> u32
+    ensures { λ r. ⌜ Flagged ((one ≡ true) × (other ≡ true)) r ⌝ }
+{
+    flag(one) * flag(other)
+}
+
+// An energy in range, and above the one before it.
+fn energy_follows(before: Energy, energy: Energy) -> bool
+    ensures { λ r. ⌜ (r ≡ true → EnergyFollows (before .0) (energy .0)) ⌝ }
+{
+    if !energy.at_most(Energy(MOST_FIGURE)) {
+        return false;
+    }
+    before.below(energy)
+}
+
+// 1 if the first entry keeps the rules.
+fn first_entry(labels: &[u8], at: usize) -> u32
+    requires { ⌜ at + 10 ≤ length (now labels) ⌝ }
+    ensures { λ r. ⌜ Flagged (entryNumber (now (labels .entry)) at 0 ≡ 0) r ⌝ }
+{
+    let time = time_at(labels, at, 0);
+    let energy = energy_at(labels, at, 0);
+    both(time_fits(Seconds(MOST_FIGURE + 1), time), energy_fits(Energy(LEAST_ENERGY), energy))
+}
+
+// 1 if the second does.
+fn second_entry(labels: &[u8], at: usize) -> u32
+    requires { ⌜ at + 18 ≤ length (now labels) ⌝ }
+    ensures { λ r. ⌜ Flagged (entryNumber (now (labels .entry)) at 1 ≡ 0) r ⌝ }
+{
+    let time = time_at(labels, at, 1);
+    let energy = energy_at(labels, at, 1);
+    both(time_fits(time_at(labels, at, 0), time), energy_follows(energy_at(labels, at, 0), energy))
+}
+
+// How many of the first two places for entries hold some that keep the rules, up to the first that does not.
+fn leading(labels: &[u8], at: usize) -> u32
+    requires { ⌜ at + 18 ≤ length (now labels) ⌝ }
+    ensures { λ r. ⌜ Leading (now (labels .entry)) at r ⌝ }
+{
+    let first = first_entry(labels, at);
+    let second = second_entry(labels, at);
+    first + first * second
+}
+
+// Whether the list at a byte has one entry, which keeps the rules.
+fn single_fits(labels: &[u8], at: usize) -> bool
+    requires { ⌜ at + 10 ≤ length (now labels) ⌝ }
+    ensures { λ r. ⌜ (r ≡ true → SingleList (now (labels .entry)) at) ⌝ }
+{
+    if u16_at(labels, at) != 1 {
+        return false;
+    }
+    first_entry(labels, at) == 1
+}
+
+// All of the lists if they stand in so many bytes though each has two entries, or else none.
+fn quick_lists(bytes: usize, lists: u32) -> u32
+    ensures { λ r. ⌜ Quick bytes lists r ⌝ }
+{
+    let most = lists as usize;
+    if bytes < SHORT_BYTES * most {
+        return 0;
+    }
+    lists
+}
+
+// Passes over lists of one entry each, up to the first that is none. The next place does not wait for a count.
+pub fn pass_single(labels: &[u8], at: usize, lists: u32, total: usize) -> Run
+    requires { ⌜ (at ≤ length (now labels)) × (length (now labels) ≤ mostBytes) ⌝ }
+    requires { ⌜ total ≤ at ⌝ }
+    ensures { λ r. ⌜ PassedSome (now (labels .entry)) at lists total (r .lists) (r .at) (r .total) ⌝ }
+{
+    let end = quick_lists(labels.len() - at, lists);
+    let mut run = Run {
+        lists: 0,
+        at: at,
+        total: total,
+    };
+    while run.lists < end {
+        let here = run.at;
+        if !single_fits(labels, here) {
+            return run;
+        }
+        run = run.more(1);
+    }
+    run
+}
+
+// Passes over lists of at most two entries, up to the first that is longer or has a fault.
+pub fn pass_short(labels: &[u8], at: usize, lists: u32, total: usize) -> Run
+    requires { ⌜ (at ≤ length (now labels)) × (length (now labels) ≤ mostBytes) ⌝ }
+    requires { ⌜ total ≤ at ⌝ }
+    ensures { λ r. ⌜ PassedSome (now (labels .entry)) at lists total (r .lists) (r .at) (r .total) ⌝ }
+{
+    let end = quick_lists(labels.len() - at, lists);
+    let mut run = Run {
+        lists: 0,
+        at: at,
+        total: total,
+    };
+    while run.lists < end {
+        let here = run.at;
+        let count = u16_at(labels, here);
+        if leading(labels, here) < count {
+            return run;
+        }
+        run = run.more(count);
+    }
+    run
+}
