@@ -5,7 +5,7 @@ use mathlib.Core.Logic.{_⊎_, inl, inr, ⊎-elim}
 use mathlib.Core.Bool.{Bool, true, false, _&&_, _||_}
 use mathlib.Core.List.{List}
 use Prim.Native.Nat.{ℕ, zero, suc, _+_, _≤_, _<_}
-use native.Mathlib.Decide.{ℕ-discrete}
+use native.Mathlib.Decide.{ℕ-discrete, decLt}
 use native.Mathlib.Nat.{zero-add, suc-add}
 use native.Mathlib.Omega.{arith}
 use lib.Dec.{ltb, eqb}
@@ -88,6 +88,27 @@ module _ (s : List ℕ) where
           stepsUp s (suc more) v ≡ stepsUp s (suc most) v
       pick f (yes r) = steps-root (suc more) v r ∙ sym (steps-root (suc most) v r)
       pick f (no r) = let here = steps-parent most v r in steps-parent more v r ∙ (ap suc (f (omega arith)) ∙ sym here)
+
+  -- a larger bound counts no fewer steps
+  steps-more : (most more v : ℕ) → most ≤ more → stepsUp s most v ≤ stepsUp s more v
+  steps-more zero more v l = omega (arith, steps-none v)
+  steps-more (suc most) zero v l = absurd (omega arith)
+  steps-more (suc most) (suc more) v l = pick (steps-more most more (parentAt s v) (omega arith)) (root? v)
+    where
+      pick : stepsUp s most (parentAt s v) ≤ stepsUp s more (parentAt s v) → Dec (IsRoot v) → stepsUp s (suc most) v ≤ stepsUp s (suc more) v
+      pick h (yes r) = omega (arith, steps-root (suc most) v r)
+      pick h (no r) = omega (arith, steps-parent most v r, steps-parent more v r)
+
+  -- a count at a larger bound tells the count at a smaller: the same if it is below it, else the bound
+  pub steps-below : (most more v : ℕ) → most ≤ more → stepsUp s more v < most → stepsUp s most v ≡ stepsUp s more v
+  steps-below most more v l h = sym (steps-stopped most more v (omega (arith, steps-more most more v l)) l)
+
+  pub steps-capped : (most more v : ℕ) → most ≤ more → most ≤ stepsUp s more v → stepsUp s most v ≡ most
+  steps-capped most more v l h = pick (decLt (stepsUp s most v) most)
+    where
+      pick : Dec (stepsUp s most v < most) → stepsUp s most v ≡ most
+      pick (yes stopped) = absurd (omega (arith, steps-stopped most more v stopped l))
+      pick (no far) = omega (arith, steps-bounded most v)
 
   -- ---- Depths
 

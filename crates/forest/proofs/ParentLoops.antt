@@ -1,10 +1,12 @@
 -- The loops that read the parents, one law for each way through.
--- In this order: a test of every number below n; one parent; climbing to a root; the table of depths; climbing k steps; whether one junction is
--- above another; whether a road joins.
+-- In this order: a test of every number below n; one parent; the table of depths that are known; climbing to one; writing the depths of a chain;
+-- all depths; climbing k steps; whether one junction is above another; whether a road joins.
 use mathlib.Core.Path.{_≡_, sym, ap, _∙_}
+use mathlib.Core.Logic.{_⊎_, inl, inr, ⊎-elim}
 use mathlib.Core.Bool.{Bool, true, false, not, false≢true}
 use mathlib.Core.List.{List}
 use Prim.Native.Nat.{ℕ, suc, _+_, _-_, _≤_, _<_}
+use native.Mathlib.Decide.{ℕ-discrete}
 use native.Mathlib.Nat.{zero-add}
 use native.Mathlib.Omega.{arith}
 use lib.Dec.{eqb}
@@ -13,13 +15,13 @@ use lib.Seq.{getD-set-same, getD-set-other}
 use borrow.Author.Count.{below-none, below-more}
 use borrow.Author.Tests.{lt-ltb, le-ltb, le-leb, lt-leb, not-true, not-false}
 use Rattle.refusals.specs.Order.{every}
-use Rattle.refusals.proofs.Order.{and-true, and-false-left, and-false-right, every-none, every-more, every-holds, every-fails}
+use Rattle.refusals.proofs.Order.{and-true, and-false-left, and-false-right, every-none, every-more, every-holds, every-fails, every-all}
 use Rattle.network.specs.NetworkFile.{junctionsOf, roadLow, roadHigh}
 use Rattle.forest.specs.LabelFile.{parentAt, noParent}
 use Rattle.forest.specs.Forest.{stepsUp, depthOf, ancestorOf, parentFits, chainEnds, isAncestor, roadJoins}
 use Rattle.forest.specs.Fits.{ParentsFit, DepthsFilled}
-use Rattle.forest.specs.ParentsRead.{ParentsStand, Climbable, ParentsTested, AncestorRead}
-use Rattle.forest.proofs.Chains.{IsRoot, AllFit, parent-on-map, steps-none, steps-root, steps-parent, ancestor-none, ancestor-more, parents-fit, climbed}
+use Rattle.forest.specs.ParentsRead.{ParentsStand, Climbable, NoneKnown, DepthsKnown, DepthFound, DepthsWritten, DepthSettled, ParentsTested, AncestorRead}
+use Rattle.forest.proofs.Chains.{IsRoot, AllFit, parent-on-map, steps-none, steps-root, steps-parent, steps-below, steps-capped, depth-parent, depth-some, ancestor-none, ancestor-more, parents-fit, climbed}
 
 -- ---- A test of every number below n
 
@@ -58,7 +60,64 @@ module _ (s : List ℕ) (v : ℕ) {n parent : ℕ} (size : n ≡ junctionsOf s) 
   unfolding parentFits
   fits-beyond h = rw (is, le-ltb (parentAt s v) (junctionsOf s) (omega arith))
 
--- ---- Climbing to a root
+-- ---- The table of depths that are known
+
+-- Of n places those below v hold n
+pub record Forgetting (n v : ℕ) (depths : List ℕ) : Type 0 where
+  pub places : length depths ≡ 1024
+  pub few : v ≤ n
+  pub unknown : (w : ℕ) → w < v → getD depths w 0 ≡ n
+
+module _ {n : ℕ} {depths : List ℕ} where
+  -- before the first, one more, after the last
+  pub forgetting-start : length depths ≡ 1024 → Forgetting n 0 depths
+  forgetting-start places = record { places = places; few = omega arith; unknown = below-none (λ w. getD depths w 0 ≡ n) }
+
+  pub forgetting-more : {v : ℕ} → Forgetting n v depths → v < n → n ≤ 1024 → Forgetting n (v + 1) (set depths v n)
+  forgetting-more {v} now more few =
+      record {
+        places = length-set depths v n ∙ now .places;
+        few = omega arith;
+        unknown =
+            below-more (λ w. getD (set depths v n) w 0 ≡ n) v
+            (λ w l. getD-set-other depths v w n 0 (omega arith) ∙ now .unknown w l)
+            (getD-set-same depths v n 0 (omega (arith, now .places)));
+      }
+
+  pub forgetting-end : {v : ℕ} → Forgetting n v depths → n ≤ v → NoneKnown n depths
+  forgetting-end now all = record { places = now .places; unknown = λ w l. now .unknown w (omega arith) }
+
+-- the number that a store leaves at w is the one stored, or the one that was there
+stored-or-old : (depths : List ℕ) (u d w : ℕ) → u < length depths → ((w ≡ u) × (getD (set depths u d) w 0 ≡ d)) ⊎ (getD (set depths u d) w 0 ≡ getD depths w 0)
+stored-or-old depths u d w inside = pick (ℕ-discrete w u)
+  where
+    pick : Dec (w ≡ u) → ((w ≡ u) × (getD (set depths u d) w 0 ≡ d)) ⊎ (getD (set depths u d) w 0 ≡ getD depths w 0)
+    pick (yes e) = inl (e, ap (λ i. getD (set depths u d) i 0) e ∙ getD-set-same depths u d 0 inside)
+    pick (no apart) = inr (getD-set-other depths u w d 0 apart)
+
+module _ (s depths : List ℕ) (u d : ℕ) (few : junctionsOf s ≤ 1024) (on-map : u < junctionsOf s) (is : d ≡ depthOf s u) where
+  -- a table that is right stays so where a depth is stored
+  pub known-more : DepthsKnown s depths → DepthsKnown s (set depths u d)
+  known-more known =
+      record {
+        places = length-set depths u d ∙ known .places;
+        right = λ w l h.
+        ⊎-elim
+        (λ same. same .1 ∙ is ∙ ap (depthOf s) (sym (same .0)))
+        (λ old. old ∙ known .right w l (omega (arith, old)))
+        (stored-or-old depths u d w (omega (arith, known .places)));
+      }
+
+  -- and what was known still is
+  pub stays-more : d < junctionsOf s → length depths ≡ 1024 → (w : ℕ) → getD depths w 0 < junctionsOf s → getD (set depths u d) w 0 < junctionsOf s
+  stays-more near places w h =
+      ⊎-elim (λ same. omega (arith, same .1)) (λ old. omega (arith, old)) (stored-or-old depths u d w (omega arith))
+
+-- ---- Climbing to a depth that is known
+
+-- what is the depth is found
+found-exact : {s : List ℕ} {v r : ℕ} → r ≡ depthOf s v → DepthFound s v r
+found-exact e = record { near = λ h. e; far = λ h. omega (arith, e) }
 
 -- After `steps` steps from v the climb has come to u, and the steps that are left make up the depth
 pub record Climbing (s : List ℕ) (n v u steps : ℕ) : Type 0 where
@@ -92,28 +151,134 @@ module _ {s : List ℕ} {n v u steps : ℕ} (now : Climbing s n v u steps) where
       left : n - steps ≡ suc (n - (steps + 1))
       left = omega arith
 
-  -- the climb is over at a root, or after n steps
-  pub climbing-root : (parent : ℕ) → parent ≡ parentAt s u → parent ≡ noParent → steps ≡ depthOf s v
-  climbing-root parent is root = omega (arith, now .depth, steps-root s (n - steps) u (sym is ∙ root))
+  -- the climb is over at a root, after n steps, or at a junction whose depth is known
+  pub climbing-root : (parent : ℕ) → parent ≡ parentAt s u → parent ≡ noParent → DepthFound s v steps
+  climbing-root parent is root = found-exact (omega (arith, now .depth, steps-root s (n - steps) u (sym is ∙ root)))
 
-  pub climbing-end : n ≤ steps → steps ≡ depthOf s v
-  climbing-end all = omega (arith, now .depth, ap (λ most. stepsUp s most u) left, steps-none s u)
+  pub climbing-end : n ≤ steps → DepthFound s v steps
+  climbing-end all = found-exact (omega (arith, now .depth, ap (λ most. stepsUp s most u) left, steps-none s u))
     where
       left : n - steps ≡ 0
       left = omega arith
 
--- ---- The table of depths
+  pub climbing-known : {depths : List ℕ} → n ≡ junctionsOf s → DepthsKnown s depths → getD depths u 0 < n → DepthFound s v (steps + getD depths u 0)
+  unfolding depthOf
+  climbing-known {depths} size known below = record { near = near; far = far }
+    where
+      is : getD depths u 0 ≡ stepsUp s (junctionsOf s) u
+      is = known .right u (now .on-map) (omega arith)
 
--- The chains of the junctions below v end, and their depths are in the table
+      near : steps + getD depths u 0 < junctionsOf s → steps + getD depths u 0 ≡ depthOf s v
+      near h =
+          omega (arith, now .depth, is, steps-below s (n - steps) (junctionsOf s) u (omega arith) (omega (arith, is)))
+
+      far : junctionsOf s ≤ steps + getD depths u 0 → junctionsOf s ≤ depthOf s v
+      far h =
+          omega (arith, now .depth, now .few, steps-capped s (n - steps) (junctionsOf s) u (omega arith) (omega (arith, is)))
+
+-- ---- Writing the depths of a chain
+
+-- The depth of u, `left`, is the last that was written on the way up from v
+pub record Writing (s : List ℕ) (v : ℕ) (before depths : List ℕ) (u left : ℕ) : Type 0 where
+  pub written : DepthsWritten s v before depths
+  pub on-map : u < junctionsOf s
+  pub depth : left ≡ depthOf s u
+  pub near : left < junctionsOf s
+
+module _ {s : List ℕ} {n v : ℕ} (from : Climbable s n v) where
+  module _ {depths : List ℕ} {depth : ℕ} (known : DepthsKnown s depths) (is : depth ≡ depthOf s v) (near : depth < n) where
+    -- v's own depth is written first
+    pub writing-start : Writing s v (set depths v depth) (set depths v depth) v depth
+    writing-start =
+        record {
+          written =
+              record {
+                known = known-more s depths v depth (from .stand .few-junctions) (from .on-map) is known;
+                stays = λ w h. h;
+                here = omega (arith, getD-set-same depths v depth 0 (omega (arith, known .places, from .on-map, from .stand .few-junctions)), from .size);
+              };
+          on-map = from .on-map;
+          depth = is;
+          near = omega (arith, from .size);
+        }
+
+    -- what was known before that still is
+    pub writing-done : {after : List ℕ} → DepthsWritten s v (set depths v depth) after → DepthsWritten s v depths after
+    writing-done written =
+        record {
+          known = written .known;
+          stays = λ w h. written .stays w (still w h);
+          here = written .here;
+        }
+      where
+        still : (w : ℕ) → getD depths w 0 < junctionsOf s → getD (set depths v depth) w 0 < junctionsOf s
+        still = stays-more s depths v depth (from .stand .few-junctions) (from .on-map) is (omega (arith, from .size)) (known .places)
+
+  module _ {before depths : List ℕ} {u left parent : ℕ} (now : Writing s v before depths u left) (more : 0 < left) (is : parent ≡ parentAt s u) where
+    -- a junction that is no root has a parent, one step above it
+    pub parent-above : (parent < junctionsOf s) × (left - 1 ≡ depthOf s parent)
+    parent-above =
+        let no-root = depth-some s u (omega (arith, now .depth)) in (
+          rw is (parent-on-map s u (from .fits u (now .on-map)) no-root),
+          rw is (omega (arith, now .depth, depth-parent s u no-root (omega (arith, now .depth, now .near)))),
+        )
+
+    -- its depth is written next
+    pub writing-more : Writing s v before (set depths parent (left - 1)) parent (left - 1)
+    writing-more =
+        let above = parent-above in
+        let few = from .stand .few-junctions in
+        let known = now .written .known in
+        record {
+          written =
+              record {
+                known = known-more s depths parent (left - 1) few (above .0) (above .1) known;
+                stays = λ w h. still w (now .written .stays w h);
+                here = still v (now .written .here);
+              };
+          on-map = above .0;
+          depth = above .1;
+          near = omega (arith, now .near);
+        }
+      where
+        still : (w : ℕ) → getD depths w 0 < junctionsOf s → getD (set depths parent (left - 1)) w 0 < junctionsOf s
+        still =
+            stays-more s depths parent (left - 1) (from .stand .few-junctions) (parent-above .0) (parent-above .1) (omega (arith, now .near))
+            (now .written .known .places)
+
+-- ---- All depths
+
+module _ {s : List ℕ} {v : ℕ} {depths : List ℕ} (known : DepthsKnown s depths) where
+  -- a depth that is known, and a chain that returns
+  pub settled-known : getD depths v 0 < junctionsOf s → DepthSettled s v depths depths true
+  settled-known h =
+      record {
+        places = known .places;
+        ends = λ e. record { known = known; stays = λ w l. l; here = h };
+        returns = λ e. absurd (false≢true (sym e));
+      }
+
+  pub settled-returns : {depth : ℕ} → DepthFound s v depth → junctionsOf s ≤ depth → DepthSettled s v depths depths false
+  settled-returns found h = record { places = known .places; ends = λ e. absurd (false≢true e); returns = λ e. found .far h }
+
+-- a depth that was written
+pub settled-written : {s : List ℕ} {v : ℕ} {before after : List ℕ} → DepthsWritten s v before after → DepthSettled s v before after true
+settled-written written = record { places = written .known .places; ends = λ e. written; returns = λ e. absurd (false≢true (sym e)) }
+
+-- The depths of the junctions below v are known
 pub record Filling (s depths : List ℕ) (v : ℕ) : Type 0 where
-  pub places : length depths ≡ 1024
-  pub passed : Passing (chainEnds s) (junctionsOf s) v
-  pub filled : (w : ℕ) → w < v → getD depths w 0 ≡ depthOf s w
+  pub known : DepthsKnown s depths
+  pub few : v ≤ junctionsOf s
+  pub below : (w : ℕ) → w < v → getD depths w 0 < junctionsOf s
 
--- none is filled yet
-pub filling-start : (s depths : List ℕ) → length depths ≡ 1024 → Filling s depths 0
-filling-start s depths places =
-    record { places = places; passed = passing-start; filled = below-none (λ w. getD depths w 0 ≡ depthOf s w) }
+-- none is known yet
+pub filling-start : (s : List ℕ) {n : ℕ} {depths : List ℕ} → n ≡ junctionsOf s → NoneKnown n depths → Filling s depths 0
+filling-start s {depths = depths} size none =
+    record {
+      known = record { places = none .places; right = λ w l h. absurd (omega (arith, none .unknown w (omega arith))) };
+      few = omega arith;
+      below = below-none (λ w. getD depths w 0 < junctionsOf s);
+    }
 
 module _
     {s : List ℕ} (stand : ParentsStand s) {n : ℕ} (size : n ≡ junctionsOf s) {r : Bool} (all : r ≡ every (parentFits s) (junctionsOf s))
@@ -141,57 +306,46 @@ module _
             on-map = omega arith;
           }
 
-      -- a chain that returns ends it too
-      pub filling-returns :
-          {depths : List ℕ} {v depth : ℕ} → Filling s depths v → v < n → depth ≡ depthOf s v → n ≤ depth → ParentsTested s depths false
-      unfolding chainEnds
-      filling-returns {v = v} {depth} now more is far =
-          record {
-            is =
-                sym
-                (and-false-right (every (parentFits s) (junctionsOf s))
-                (every-fails (chainEnds s) (junctionsOf s) {i = v} (omega arith) (le-ltb (depthOf s v) (junctionsOf s) (omega arith))));
-            filled = λ z. absurd (false≢true z);
-            places = now .places;
-          }
+      module _ {depths after : List ℕ} {v : ℕ} {settled : Bool} (now : Filling s depths v) (more : v < n) (does : DepthSettled s v depths after settled) where
+        -- a chain that returns ends it too
+        pub filling-returns : not settled ≡ true → ParentsTested s after false
+        unfolding chainEnds
+        filling-returns e =
+            record {
+              is =
+                  sym
+                  (and-false-right (every (parentFits s) (junctionsOf s))
+                  (every-fails (chainEnds s) (junctionsOf s) {i = v} (omega arith)
+                  (le-ltb (depthOf s v) (junctionsOf s) (does .returns (not-true settled e)))));
+              filled = λ z. absurd (false≢true z);
+              places = does .places;
+            }
 
-      -- one more depth
-      pub filling-more :
-          {depths : List ℕ} {v depth : ℕ} →
-          Filling s depths v →
-          v < n →
-          depth ≡ depthOf s v →
-          depth < n →
-          Filling s (set depths v depth) (v + 1)
-      unfolding chainEnds
-      filling-more {depths} {v} {depth} now more is near =
-          record {
-            places = length-set depths v depth ∙ now .places;
-            passed =
-                record {
-                  few = omega arith;
-                  so-far = every-more (chainEnds s) v (now .passed .so-far) (lt-ltb (depthOf s v) (junctionsOf s) (omega arith));
-                };
-            filled = below-more (λ w. getD (set depths v depth) w 0 ≡ depthOf s w) v before here;
-          }
-        where
-          inside : v < length depths
-          inside = omega (arith, now .places, stand .few-junctions)
-
-          before : (w : ℕ) → w < v → getD (set depths v depth) w 0 ≡ depthOf s w
-          before w l = getD-set-other depths v w depth 0 (omega arith) ∙ now .filled w l
-
-          here : getD (set depths v depth) v 0 ≡ depthOf s v
-          here = getD-set-same depths v depth 0 inside ∙ is
+        -- one more depth
+        pub filling-more : not settled ≡ false → Filling s after (v + 1)
+        filling-more e =
+            let written = does .ends (not-false settled e) in
+            record {
+              known = written .known;
+              few = omega arith;
+              below = below-more (λ w. getD after w 0 < junctionsOf s) v (λ w l. written .stays w (now .below w l)) (written .here);
+            }
 
       -- all are filled
       pub filling-end : {depths : List ℕ} {v : ℕ} → Filling s depths v → n ≤ v → ParentsTested s depths true
+      unfolding chainEnds
       filling-end {depths} {v} now over =
           record {
-            is = sym (and-true all-hold (sym (passing-end (now .passed) (omega arith))));
-            filled = λ z. record { places = now .places; depth = λ w l. now .filled w (omega arith) };
-            places = now .places;
+            is = sym (and-true all-hold (every-all (chainEnds s) (junctionsOf s) (λ w l. lt-ltb (depthOf s w) (junctionsOf s) (omega (arith, below w l, depth w l)))));
+            filled = λ z. record { places = now .known .places; depth = depth };
+            places = now .known .places;
           }
+        where
+          below : (w : ℕ) → w < junctionsOf s → getD depths w 0 < junctionsOf s
+          below w l = now .below w (omega arith)
+
+          depth : (w : ℕ) → w < junctionsOf s → getD depths w 0 ≡ depthOf s w
+          depth w l = now .known .right w l (below w l)
 
 -- parents that were tested and pass are fit to be read further
 pub tested-fit : {s depths : List ℕ} {r : Bool} → ParentsStand s → ParentsTested s depths r → r ≡ true → ParentsFit s

@@ -11,7 +11,17 @@ ghost use Rattle.network.specs.NetworkFile.{junctionsOf, roadsOf};
 ghost use Rattle.forest.specs.Forest.{depthOf, parentFits, isAncestor, roadJoins};
 ghost use Rattle.forest.specs.Fits.{ParentsFit, DepthsFilled};
 ghost use Rattle.network.specs.Fits.{NetworkFits};
-ghost use Rattle.forest.specs.ParentsRead.{ParentsStand, Climbable, ParentsTested, AncestorRead};
+ghost use Rattle.forest.specs.ParentsRead.{
+  ParentsStand,
+  Climbable,
+  NoneKnown,
+  DepthsKnown,
+  DepthFound,
+  DepthsWritten,
+  DepthSettled,
+  ParentsTested,
+  AncestorRead,
+};
 
 const NO_PARENT: u32 = 65535;
 
@@ -51,14 +61,32 @@ fn parents_fit(labels: &[u8], n: u32) -> bool
     true
 }
 
-// The depth of v, n where its chain returns: n steps have met a junction twice.
-fn steps_up(labels: &[u8], n: u32, v: usize) -> u32
+// Notes of every junction that its depth is not known: n, which no depth reaches.
+fn forget_depths(depths: &mut [u32; 1024], n: u32)
+    requires { ⌜ (n ≤ 1024) × (length (now depths) ≡ 1024) ⌝ }
+    ensures { λ r. ⌜ NoneKnown n (now (depths .exit)) ⌝ }
+{
+    let end = n as usize;
+    let mut v: usize = 0;
+    while v < end {
+        depths[v] = n;
+        v += 1;
+    }
+}
+
+// The depth of v, by the steps to a root or to a junction whose depth is known; n or more where its chain returns: n steps have met a junction twice.
+fn steps_up(labels: &[u8], depths: &[u32; 1024], n: u32, v: usize) -> u32
     requires { ⌜ Climbable (now labels) n v ⌝ }
-    ensures { λ r. ⌜ r ≡ depthOf (now (labels .entry)) v ⌝ }
+    requires { ⌜ DepthsKnown (now labels) (now depths) ⌝ }
+    ensures { λ r. ⌜ DepthFound (now (labels .entry)) v r ⌝ }
 {
     let mut u = v;
     let mut steps: u32 = 0;
     while steps < n {
+        let known = depths[u];
+        if known < n {
+            return steps + known;
+        }
         let parent = parent_at(labels, u);
         if parent == NO_PARENT {
             return steps;
@@ -69,7 +97,45 @@ fn steps_up(labels: &[u8], n: u32, v: usize) -> u32
     steps
 }
 
-// Whether the parents keep the rules of 15. If they do, the depths of all junctions are filled.
+// Writes the depths of v and of its ancestors, up to the first that is known.
+fn write_depths(labels: &[u8], depths: &mut [u32; 1024], n: u32, v: usize, depth: u32)
+    requires { ⌜ Climbable (now labels) n v ⌝ }
+    requires { ⌜ DepthsKnown (now labels) (now depths) ⌝ }
+    requires { ⌜ (depth ≡ depthOf (now labels) v) × (depth < n) ⌝ }
+    ensures { λ r. ⌜ DepthsWritten (now (labels .entry)) v (now (depths .entry)) (now (depths .exit)) ⌝ }
+{
+    depths[v] = depth;
+    let mut u = v;
+    let mut left = depth;
+    while left > 0 {
+        let parent = parent_at(labels, u);
+        u = parent as usize;
+        left -= 1;
+        if depths[u] < n {
+            return;
+        }
+        depths[u] = left;
+    }
+}
+
+// Whether the chain of v ends. If it does, the depth of v is known.
+fn settle(labels: &[u8], depths: &mut [u32; 1024], n: u32, v: usize) -> bool
+    requires { ⌜ Climbable (now labels) n v ⌝ }
+    requires { ⌜ DepthsKnown (now labels) (now depths) ⌝ }
+    ensures { λ r. ⌜ DepthSettled (now (labels .entry)) v (now (depths .entry)) (now (depths .exit)) r ⌝ }
+{
+    if depths[v] < n {
+        return true;
+    }
+    let depth = steps_up(labels, depths, n, v);
+    if depth >= n {
+        return false;
+    }
+    write_depths(labels, depths, n, v, depth);
+    true
+}
+
+// Whether the parents keep the rules of 15. If they do, the depths of all junctions are filled. Each junction is climbed past at most twice.
 pub fn fill_depths(labels: &[u8], depths: &mut [u32; 1024]) -> bool
     requires { ⌜ ParentsStand (now labels) ⌝ }
     requires { ⌜ length (now depths) ≡ 1024 ⌝ }
@@ -79,14 +145,13 @@ pub fn fill_depths(labels: &[u8], depths: &mut [u32; 1024]) -> bool
     if !parents_fit(labels, n) {
         return false;
     }
+    forget_depths(depths, n);
     let end = n as usize;
     let mut v: usize = 0;
     while v < end {
-        let depth = steps_up(labels, n, v);
-        if depth >= n {
+        if !settle(labels, depths, n, v) {
             return false;
         }
-        depths[v] = depth;
         v += 1;
     }
     true

@@ -1,6 +1,6 @@
--- The loop has filled the depths below v, each below n; a parent that does not fit and a chain of n steps fail.
-use native.Mathlib.Omega.{arith}
+-- The loop has settled every junction below v; a parent that does not fit and a chain that returns fail.
 use Prim.Native.Nat.{_-_}
+use native.Mathlib.Omega.{arith}
 use Rattle.forest.proofs.ParentLoops.{Filling, tested-misfit, can-climb, filling-start, filling-returns, filling-more, filling-end}
 use borrow.Author.Needs.{needs}
 use Rattle.forest.proofs.parents.fill_depths.Statement.{statement}
@@ -21,33 +21,20 @@ parents-fit-requires c κs = search needs
 returns : tie.Need-returns Inv-loop μ-loop
 returns c = search (tested-misfit)
 
+forget-depths-requires : tie.Need-forget-depths-requires Inv-loop μ-loop
+forget-depths-requires c κs = search needs
+
 cast-end : tie.Need-cast-end Inv-loop μ-loop
 cast-end c = search needs
 
 loop-holds : tie.Need-loop-holds Inv-loop μ-loop
 loop-holds c = search (filling-start)
 
-steps-up-requires : tie.Need-steps-up-requires Inv-loop μ-loop
-steps-up-requires c κs = search (can-climb)
+settle-requires : tie.Need-settle-requires Inv-loop μ-loop
+settle-requires c κs = search (can-climb, needs)
 
 returns-2 : tie.Need-returns-2 Inv-loop μ-loop
-returns-2 c =
-    let start = c .before .before .before .before in
-    filling-returns
-    (start .before .before .before .before .pre .0)
-    (start .before .before .u16-at .ensures .is)
-    (start .before .parents-fit .ensures)
-    (start .if1 .left)
-    (c .before .before .before .loop .inv)
-    (omega arith)
-    (c .before .steps-up .ensures)
-    (omega arith)
-
-mul-depths : tie.Need-mul-depths Inv-loop μ-loop
-mul-depths c = search needs
-
-element-write-depths : tie.Need-element-write-depths Inv-loop μ-loop
-element-write-depths c = search needs
+returns-2 c = search (filling-returns)
 
 add-v : tie.Need-add-v Inv-loop μ-loop
 add-v c = search needs
@@ -70,12 +57,11 @@ fill-depths-spec =
     u16-at-requires
     parents-fit-requires
     returns
+    forget-depths-requires
     cast-end
     loop-holds
-    steps-up-requires
+    settle-requires
     returns-2
-    mul-depths
-    element-write-depths
     add-v
     loop-less
     loop-again
