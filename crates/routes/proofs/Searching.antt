@@ -6,15 +6,15 @@ use mathlib.Core.List.{List, List·Memᴰ}
 use Prim.Native.Nat.{ℕ, zero, suc, _+_, _-_, _*_, _≤_, _<_}
 use native.Mathlib.Decide.{decLe, ℕ-discrete}
 use native.Mathlib.Omega.{arith}
-use lib.Dec.{leb}
+use lib.Dec.{leb, ltb}
 use lib.ListN.{length, getD}
-use borrow.Author.Tests.{leb-true, leb-false}
+use borrow.Author.Tests.{leb-true, leb-false, ltb-true}
 use Rattle.paths.specs.Weights.{weights, energy, pair, time, spent}
 use Rattle.paths.specs.Network.{stay, weight}
 use Rattle.paths.specs.TradeOff.{IsTradeOff, IsSum}
 use Rattle.paths.specs.Forest.{Above, Common}
 use Rattle.paths.proofs.Crossing.{apart-without-common}
-use Rattle.network.specs.NetworkFile.{networkOf}
+use Rattle.network.specs.NetworkFile.{networkOf, junctionsOf}
 use Rattle.lists.specs.Entries.{Weight}
 use Rattle.lists.specs.Cover.{Decides}
 use Rattle.forest.specs.LabelFile.{parentsOf, countAt, timeAt, energyAt, listEnd}
@@ -29,7 +29,7 @@ use Rattle.query.specs.Prepared.{Prepared}
 use Rattle.query.specs.AnswerFrom.{EntryOf}
 use Rattle.query.specs.Levels.{behind, LevelSum, MarkedSum, Branches}
 use Rattle.routes.specs.Reach.{PathWithin}
-use Rattle.routes.specs.Searched.{HasWithin, FittingFrom, CoversAt, Asked}
+use Rattle.routes.specs.Searched.{HasWithin, FittingFrom, CoversAt, NoSum, Asked, Held}
 use Rattle.query.proofs.MarkedSums.{level-place, level-next, level-fits}
 use Rattle.query.proofs.WholeAnswers.{StandsFor, proper, tradeOff-stands, stored-up, stored-down, marked-stands}
 
@@ -237,28 +237,75 @@ covers-decides {seconds = seconds} {sum = sum} some first-is second-is sum-is e 
       fails = λ q covers. let late : seconds < sum = leb-false sum seconds (sym e ∙ q) in omega (arith, covers .quick);
     }
 
--- a level that is not marked asks for no entry
-pub asked-none : {s marks : List ℕ} {level near : ℕ} → (getD marks level 0 ≡ 1 → ⊥) → Asked s marks level near 0
-asked-none unmarked = record { marked = λ h. absurd (omega arith); all = λ e. absurd (unmarked e); few = omega arith }
+module _ {s : List ℕ} {near far seconds units : ℕ} where
+  -- a list without entries makes no sum
+  pub no-near : {count : ℕ} → count ≡ countAt s near → count ≡ 0 → NoSum s near far seconds units 0
+  no-near e f = record { none = λ i k from h g in-time in-units. omega arith }
 
--- a marked level asks for all
-pub asked-all : {s marks : List ℕ} {level near count : ℕ} → getD marks level 0 ≡ 1 → count ≡ countAt s near → Asked s marks level near count
-asked-all marked e = record { marked = λ h. marked; all = λ h. e; few = omega arith }
+  pub no-far : {count : ℕ} → count ≡ countAt s far → count ≡ 0 → NoSum s near far seconds units 0
+  no-far e f = record { none = λ i k from h g in-time in-units. omega arith }
 
--- all entries of the near list were tried at a marked level
-pub pairing-end :
-    {s marks : List ℕ} {level near far seconds units count i j : ℕ} → Pairing s near far seconds units count i j → count ≤ i → Asked s marks level near count →
-    (q : Weight) → LevelSum s marks level near far q → weights energy ._⊑_ q (pair seconds units) → ⊥
-pairing-end {s} {near = near} {far = far} now h asked q here small =
-    let one = member-stands (entry s near) (countAt s near) (here .sum .in-first) in
-    let two = member-stands (entry s far) (countAt s far) (here .sum .in-second) in
-    let first-time : time energy (here .sum .left) ≡ timeAt s near (one .place) = ap (time energy) (one .is) in
-    let first-energy : spent energy (here .sum .left) ≡ energyAt s near (one .place) = ap (spent energy) (one .is) in
-    let second-time : time energy (here .sum .right) ≡ timeAt s far (two .place) = ap (time energy) (two .is) in
-    let second-energy : spent energy (here .sum .right) ≡ energyAt s far (two .place) = ap (spent energy) (two .is) in
-    let sum-time : time energy (here .sum .left) + time energy (here .sum .right) ≡ time energy q = ap (time energy) (here .sum .adds) in
-    let sum-energy : spent energy (here .sum .left) + spent energy (here .sum .right) ≡ spent energy q = ap (spent energy) (here .sum .adds) in
-    now .none (one .place) (two .place) (omega (arith, asked .all (here .marked), one .below)) (two .below) (omega (arith, small .1)) (omega (arith, small .0))
+  module _ (near-fits : ListFits s near) (far-fits : ListFits s far) where
+    -- the first entries have the least energies
+    pub least-over :
+        {first second sum : ℕ} {over : Bool} → first ≡ energyAt s near 0 → second ≡ energyAt s far 0 → sum ≡ first + second → over ≡ ltb units sum →
+        over ≡ true → NoSum s near far seconds units 0
+    least-over {sum = sum} first-is second-is sum-is e f =
+        let beyond : units < sum = ltb-true units sum (sym e ∙ f) in
+        record {
+          none = λ i k from h g in-time in-units.
+              omega (arith, energies-rise near-fits 0 i (omega arith) h, energies-rise far-fits 0 k (omega arith) g);
+        }
+
+    -- the last entries have the least times
+    pub quickest-late :
+        {count others first second sum : ℕ} {in-time : Bool} → count ≡ countAt s near → others ≡ countAt s far → first ≡ timeAt s near (count - 1) →
+        second ≡ timeAt s far (others - 1) → sum ≡ first + second → in-time ≡ leb sum seconds → in-time ≡ false → NoSum s near far seconds units 0
+    quickest-late {count} {others} {sum = sum} count-is others-is first-is second-is sum-is e f =
+        let late : seconds < sum = leb-false sum seconds (sym e ∙ f) in
+        record {
+          none = λ i k from h g in-time in-units.
+              omega (arith, times-fall near-fits i (count - 1) (omega arith) (omega arith), times-fall far-fits k (others - 1) (omega arith) (omega arith));
+        }
+
+module _ {s marks : List ℕ} {level near far seconds units : ℕ} where
+  -- a level that is not marked asks for no entry
+  pub asked-none : (getD marks level 0 ≡ 1 → ⊥) → Asked s marks level near far seconds units 0
+  asked-none unmarked = record { marked = λ h. absurd (omega arith); few = omega arith; others = λ e. absurd (unmarked e) }
+
+  -- nor one whose lists make no sum
+  pub asked-nothing : NoSum s near far seconds units 0 → Asked s marks level near far seconds units 0
+  asked-nothing nothing = record { marked = λ h. absurd (omega arith); few = omega arith; others = λ e. nothing }
+
+  -- any other asks for all
+  pub asked-all : {count : ℕ} → getD marks level 0 ≡ 1 → count ≡ countAt s near → Asked s marks level near far seconds units count
+  asked-all marked e =
+      record { marked = λ h. marked; few = omega arith; others = λ h. record { none = λ i k from g m in-time in-units. omega arith } }
+
+  -- all entries that are asked were tried
+  pub pairing-end :
+      {count i j : ℕ} → Pairing s near far seconds units count i j → count ≤ i → Asked s marks level near far seconds units count →
+      (q : Weight) → LevelSum s marks level near far q → weights energy ._⊑_ q (pair seconds units) → ⊥
+  pairing-end {count} now h asked q here small =
+      let first-time : time energy (here .sum .left) ≡ timeAt s near (one .place) = ap (time energy) (one .is) in
+      let first-energy : spent energy (here .sum .left) ≡ energyAt s near (one .place) = ap (spent energy) (one .is) in
+      let second-time : time energy (here .sum .right) ≡ timeAt s far (two .place) = ap (time energy) (two .is) in
+      let second-energy : spent energy (here .sum .right) ≡ energyAt s far (two .place) = ap (spent energy) (two .is) in
+      let sum-time : time energy (here .sum .left) + time energy (here .sum .right) ≡ time energy q = ap (time energy) (here .sum .adds) in
+      let sum-energy : spent energy (here .sum .left) + spent energy (here .sum .right) ≡ spent energy q = ap (spent energy) (here .sum .adds) in
+      pick (omega (arith, small .1)) (omega (arith, small .0)) (decLe count (one .place))
+    where
+      one : Stands (entry s near) (countAt s near) (here .sum .left)
+      one = member-stands (entry s near) (countAt s near) (here .sum .in-first)
+
+      two : Stands (entry s far) (countAt s far) (here .sum .right)
+      two = member-stands (entry s far) (countAt s far) (here .sum .in-second)
+
+      pick :
+          timeAt s near (one .place) + timeAt s far (two .place) ≤ seconds → energyAt s near (one .place) + energyAt s far (two .place) ≤ units →
+          Dec (count ≤ one .place) → ⊥
+      pick in-time in-units (yes other) = asked .others (here .marked) .none (one .place) (two .place) other (one .below) (two .below) in-time in-units
+      pick in-time in-units (no asks) = now .none (one .place) (two .place) (omega arith) (two .below) in-time in-units
 
 -- ---- Level by level
 
@@ -369,6 +416,21 @@ stands-decides {p = p} stands decides =
           let z = stands .below (path .walk) in
           decides .fails q (record { one = z .one; among = z .among; no-larger = (omega (arith, z .no-larger .0, path .no-larger .0), omega (arith, z .no-larger .1, path .no-larger .1)) });
     }
+
+-- ---- The marks that are held
+
+module _ {net s : List ℕ} {l held : ℕ} {marks : List ℕ} where
+  -- those of l
+  pub held-same : l < junctionsOf s → Held net s held marks → held ≡ l → HopMarks net s l marks
+  held-same on-map now e = rw e at (now .kept (omega arith))
+
+  -- marked anew
+  pub held-new : HopMarks net s l marks → held ≡ l → Held net s held marks
+  held-new hops e = record { places = hops .marks-length; kept = λ h. rw e hops }
+
+-- none at first
+pub held-none : {net s marks : List ℕ} {held : ℕ} → length marks ≡ 1024 → junctionsOf s ≤ held → Held net s held marks
+held-none places h = record { places = places; kept = λ g. absurd (omega arith) }
 
 -- a junction reaches itself within anything
 pub reach-itself : {net : List ℕ} {x y : ℕ} {p : Weight} → x ≡ y → Decides (PathWithin net x y p) true

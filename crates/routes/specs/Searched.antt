@@ -2,10 +2,12 @@
 use mathlib.Core.Path.{_≡_}
 use mathlib.Core.List.{List}
 use Prim.Native.Nat.{ℕ, _+_, _-_, _≤_, _<_}
-use lib.ListN.{getD}
+use lib.ListN.{length, getD}
 use Rattle.paths.specs.Weights.{weights, energy}
 use Rattle.lists.specs.Entries.{Weight}
+use Rattle.network.specs.NetworkFile.{junctionsOf}
 use Rattle.forest.specs.LabelFile.{countAt, timeAt, energyAt}
+use Rattle.hoplinks.specs.Meeting.{HopMarks}
 
 -- A pair of the set takes no more than p
 pub record HasWithin (Has : Weight → Type 0) (p : Weight) : Type 0 where
@@ -24,8 +26,19 @@ pub record CoversAt (s : List ℕ) (near i far j seconds : ℕ) : Type 0 where
   pub some : 0 < j
   pub quick : timeAt s near i + timeAt s far (j - 1) ≤ seconds
 
--- How many entries of the near list are asked at a level: all where it is marked, else none
-pub record Asked (s marks : List ℕ) (level near count : ℕ) : Type 0 where
+-- No sum of an entry of the near list, from place `from` on, and an entry of the far list takes no more than (seconds, units)
+pub record NoSum (s : List ℕ) (near far seconds units from : ℕ) : Type 0 where
+  pub none :
+      (i k : ℕ) → from ≤ i → i < countAt s near → k < countAt s far → timeAt s near i + timeAt s far k ≤ seconds →
+      energyAt s near i + energyAt s far k ≤ units → ⊥
+
+-- How many entries of the near list are asked at a level: none where it is not marked, and where it is the others make no such sum
+pub record Asked (s marks : List ℕ) (level near far seconds units count : ℕ) : Type 0 where
   pub marked : 0 < count → getD marks level 0 ≡ 1
-  pub all : getD marks level 0 ≡ 1 → count ≡ countAt s near
   pub few : count ≤ countAt s near
+  pub others : getD marks level 0 ≡ 1 → NoSum s near far seconds units count
+
+-- The hoplinks of the junction held are marked; a number behind the last junction holds none
+pub record Held (net s : List ℕ) (held : ℕ) (marks : List ℕ) : Type 0 where
+  pub places : length marks ≡ 1024
+  pub kept : held < junctionsOf s → HopMarks net s held marks

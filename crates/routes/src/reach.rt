@@ -10,8 +10,8 @@ use stored::place::find_list;
 use stored::stored::energy_at;
 use stored::stored::time_at;
 ghost use mathlib.Core.Path.{_≡_};
+ghost use mathlib.Core.Bool.{false};
 ghost use Prim.Native.Nat.{suc, _≤_, _<_};
-ghost use lib.ListN.{length};
 ghost use Rattle.paths.specs.Weights.{pair};
 ghost use Rattle.network.specs.NetworkFile.{junctionsOf};
 ghost use Rattle.lists.specs.Cover.{Decides};
@@ -20,12 +20,13 @@ ghost use Rattle.stored.specs.ListForm.{mostFigure};
 ghost use Rattle.forest.specs.Forest.{depthOf};
 ghost use Rattle.stored.specs.Stored.{listAt};
 ghost use Rattle.forest.specs.Fits.{DepthsFilled};
-ghost use Rattle.stored.specs.Formed.{Formed, StartsFilled, ListFits};
+ghost use Rattle.stored.specs.Formed.{Formed, StartsFilled, ListFits, Beside};
+ghost use Rattle.hoplinks.specs.Meeting.{HopMarks};
 ghost use Rattle.query.specs.Prepared.{Prepared};
 ghost use Rattle.query.specs.AnswerFrom.{EntryOf};
 ghost use Rattle.query.specs.Levels.{MarkedSum, Branches};
 ghost use Rattle.routes.specs.Reach.{PathWithin};
-ghost use Rattle.routes.specs.Searched.{HasWithin, FittingFrom, CoversAt, Asked};
+ghost use Rattle.routes.specs.Searched.{HasWithin, FittingFrom, CoversAt, NoSum, Asked, Held};
 
 fn wide(x: u32) -> usize
     ensures { λ r. ⌜ r ≡ x ⌝ }
@@ -65,16 +66,48 @@ fn list_reaches(labels: &[u8], at: usize, time: Seconds, units: Energy) -> bool
     last.at_most(time)
 }
 
-// How many entries of the list at a byte are asked: all where its level is marked, else none.
-fn asked(labels: &[u8], marks: &[u8; 1024], level: usize, at: usize) -> usize
-    requires { ⌜ ListFits (now labels) at ⌝ }
+// Whether a sum of entries of two lists may take no more than (time, units): their least energies do, and their least times do.
+fn may_cover(labels: &[u8], near: usize, far: usize, time: Seconds, units: Energy) -> bool
+    requires { ⌜ ListFits (now labels) near × ListFits (now labels) far ⌝ }
+    ensures { λ r. ⌜ (r ≡ false → NoSum (now (labels .entry)) near far (time .0) (units .0) 0) ⌝ }
+{
+    let near_count = wide(u16_at(labels, near));
+    let far_count = wide(u16_at(labels, far));
+    if near_count == 0 {
+        return false;
+    }
+    if far_count == 0 {
+        return false;
+    }
+    let least = energy_at(labels, near, 0).plus(energy_at(labels, far, 0));
+    if units.below(least) {
+        return false;
+    }
+    let quickest = time_at(labels, near, near_count - 1).plus(time_at(labels, far, far_count - 1));
+    quickest.at_most(time)
+}
+
+// How many entries of the near list are asked at a level: all where it is marked and may cover (time, units), else none.
+fn asked(
+    labels: &[u8],
+    marks: &[u8; 1024],
+    level: usize,
+    near: usize,
+    far: usize,
+    time: Seconds,
+    units: Energy,
+) -> usize
+    requires { ⌜ ListFits (now labels) near × ListFits (now labels) far ⌝ }
     requires { ⌜ level < 1024 ⌝ }
-    ensures { λ r. ⌜ Asked (now (labels .entry)) (now (marks .entry)) level at r ⌝ }
+    ensures { λ r. ⌜ Asked (now (labels .entry)) (now (marks .entry)) level near far (time .0) (units .0) r ⌝ }
 {
     if marks[level] != 1 {
         return 0;
     }
-    wide(u16_at(labels, at))
+    if may_cover(labels, near, far, time, units) {
+        return wide(u16_at(labels, near));
+    }
+    0
 }
 
 // Whether entry i of the near list and the last of the far list's first j entries take no more than the time.
@@ -120,7 +153,7 @@ fn search_levels(
         left -= 1;
         let near_at = near.at;
         let far_at = far.at;
-        let count = asked(labels, marks, left, near_at);
+        let count = asked(labels, marks, left, near_at, far_at, time, units);
         let mut j = wide(u16_at(labels, far_at));
         let mut i: usize = 0;
         while i < count {
@@ -137,6 +170,27 @@ fn search_levels(
     found
 }
 
+// Marks the hoplinks of l, unless they are the ones that are marked.
+fn hold_hoplinks(
+    net: &[u8],
+    labels: &[u8],
+    depths: &[u32; 1024],
+    l: usize,
+    held: &mut usize,
+    marks: &mut [u8; 1024],
+)
+    requires { ⌜ Beside (now net) (now labels) × DepthsFilled (now labels) (now depths) × (l < junctionsOf (now labels)) ⌝ }
+    requires { ⌜ Held (now net) (now labels) (now held) (now marks) ⌝ }
+    ensures { λ _. ⌜ HopMarks (now (net .entry)) (now (labels .entry)) l (now (marks .exit)) ⌝ }
+    ensures { λ _. ⌜ Held (now (net .entry)) (now (labels .entry)) (now (held .exit)) (now (marks .exit)) ⌝ }
+{
+    if *held == l {
+        return;
+    }
+    mark_hoplinks(net, labels, depths, l, marks);
+    *held = l;
+}
+
 // Whether a path from x to y takes no more than (time, units).
 pub fn reaches(
     net: &[u8],
@@ -147,13 +201,14 @@ pub fn reaches(
     y: usize,
     time: Seconds,
     units: Energy,
+    held: &mut usize,
     marks: &mut [u8; 1024],
 ) -> bool
     requires { ⌜ Prepared (now net) (now labels) (now depths) (now starts) ⌝ }
     requires { ⌜ (x < junctionsOf (now net)) × (y < junctionsOf (now net)) ⌝ }
-    requires { ⌜ length (now marks) ≡ 1024 ⌝ }
+    requires { ⌜ Held (now net) (now labels) (now held) (now marks) ⌝ }
     ensures { λ r. ⌜ Decides (PathWithin (now (net .entry)) x y (pair (time .0) (units .0))) r ⌝ }
-    ensures { λ _. ⌜ length (now (marks .exit)) ≡ 1024 ⌝ }
+    ensures { λ _. ⌜ Held (now (net .entry)) (now (labels .entry)) (now (held .exit)) (now (marks .exit)) ⌝ }
 {
     if x == y {
         return true;
@@ -172,6 +227,6 @@ pub fn reaches(
         let at = place.at;
         return list_reaches(labels, at, time, units);
     }
-    mark_hoplinks(net, labels, depths, l, marks);
+    hold_hoplinks(net, labels, depths, l, held, marks);
     search_levels(labels, depths, starts, marks, x, y, l, time, units)
 }

@@ -18,8 +18,12 @@ ghost use Rattle.network.specs.NetworkFile.{junctionsOf, roadsOf, networkOf};
 ghost use Rattle.network.specs.Roads.{touches, Grouped};
 ghost use Rattle.lists.specs.Cover.{Decides};
 ghost use Rattle.query.specs.Prepared.{Prepared};
+ghost use Rattle.routes.specs.Searched.{Held};
 ghost use Rattle.routes.specs.Steps.{StepFits, StepRoad};
 ghost use Rattle.routes.specs.Written.{RouteFound};
+
+// Behind the last junction that a network can have: at first no hoplinks are marked.
+const NONE_HELD: usize = 1024;
 
 fn time_left(whole: Seconds, part: Seconds) -> Seconds
     requires { ⌜ part .0 ≤ whole .0 ⌝ }
@@ -52,15 +56,16 @@ fn step_fits(
     k: usize,
     time: Seconds,
     units: Energy,
+    held: &mut usize,
     marks: &mut [u8; 1024],
 ) -> bool
     requires { ⌜ Prepared (now net) (now labels) (now depths) (now starts) ⌝ }
     requires { ⌜ y < junctionsOf (now net) ⌝ }
     requires { ⌜ k < roadsOf (now net) ⌝ }
     requires { ⌜ touches (now net) here k ≡ true ⌝ }
-    requires { ⌜ length (now marks) ≡ 1024 ⌝ }
+    requires { ⌜ Held (now net) (now labels) (now held) (now marks) ⌝ }
     ensures { λ r. ⌜ Decides (StepFits (now (net .entry)) here y k (time .0) (units .0)) r ⌝ }
-    ensures { λ _. ⌜ length (now (marks .exit)) ≡ 1024 ⌝ }
+    ensures { λ _. ⌜ Held (now (net .entry)) (now (labels .entry)) (now (held .exit)) (now (marks .exit)) ⌝ }
 {
     let takes = road_time(net, k);
     if time.below(takes) {
@@ -82,6 +87,7 @@ fn step_fits(
         y,
         rest_time,
         rest_units,
+        held,
         marks,
     )
 }
@@ -98,6 +104,7 @@ fn step_road(
     y: usize,
     time: Seconds,
     units: Energy,
+    held: &mut usize,
     marks: &mut [u8; 1024],
 ) -> usize
     requires { ⌜ Prepared (now net) (now labels) (now depths) (now starts) ⌝ }
@@ -105,14 +112,26 @@ fn step_road(
     requires { ⌜ (here < junctionsOf (now net)) × (y < junctionsOf (now net)) ⌝ }
     requires { ⌜ (here ≡ y → ⊥) ⌝ }
     requires { ⌜ Skyline (networkOf (now net)) here y (pair (time .0) (units .0)) ⌝ }
-    requires { ⌜ length (now marks) ≡ 1024 ⌝ }
+    requires { ⌜ Held (now net) (now labels) (now held) (now marks) ⌝ }
     ensures { λ r. ⌜ StepRoad (now (net .entry)) here y r (time .0) (units .0) ⌝ }
-    ensures { λ _. ⌜ length (now (marks .exit)) ≡ 1024 ⌝ }
+    ensures { λ _. ⌜ Held (now (net .entry)) (now (labels .entry)) (now (held .exit)) (now (marks .exit)) ⌝ }
 {
     let roads = wide(u32_at(net, 8));
     let mut k = wide(heads[here]);
     while k < roads {
-        if step_fits(net, labels, depths, starts, here, y, k, time, units, marks) {
+        if step_fits(
+            net,
+            labels,
+            depths,
+            starts,
+            here,
+            y,
+            k,
+            time,
+            units,
+            held,
+            marks,
+        ) {
             return k;
         }
         k = next_road(net, nexts, here, k);
@@ -147,6 +166,7 @@ pub fn route(
     let mut rest_time = time;
     let mut rest_units = units;
     let mut count: usize = 0;
+    let mut held = NONE_HELD;
     while here != y {
         junctions[count] = here as u32;
         count += 1;
@@ -161,6 +181,7 @@ pub fn route(
             y,
             rest_time,
             rest_units,
+            &mut held,
             marks,
         );
         rest_time = time_left(rest_time, road_time(net, k));

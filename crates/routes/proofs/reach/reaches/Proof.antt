@@ -75,32 +75,34 @@ returns-4 c =
     let above = meets-finish meets (c .before .before .if3 .taken) (e .if1 .left) in
     (reach-up (p .0) above (c .before .find-list2 .ensures) (c .list-reaches2 .ensures), p .1 .1)
 
-mark-hoplinks-requires : tie.Need-mark-hoplinks-requires
-mark-hoplinks-requires c κs =
-    let m = c .before .before .before .before in
+hold-hoplinks-requires : tie.Need-hold-hoplinks-requires
+hold-hoplinks-requires c κs =
+    let m = c .before .before .before .before .before in
     let e = m .before .before .before in
     let p = e .before .before .before .pre in
     let meets = meets-at _ _ _ (m .meeting .given .1) (m .before .before .deepest .ensures) in
-    (p .0 .beside, p .0 .depths-filled, meets .on-map, p .1 .1)
+    ((p .0 .beside, p .0 .depths-filled, meets .on-map), p .1 .1)
 
 search-levels-requires : tie.Need-search-levels-requires
 search-levels-requires c κs =
-    let m = c .before .before .before .before .before .before in
+    let not-y = c .before .before .before .before in
+    let m = not-y .before .before .before in
     let e = m .before .before .before in
     let p = e .before .before .before .pre in
     let meets = meets-at _ _ _ (m .meeting .given .1) (m .before .before .deepest .ensures) in (
       (p .0 .beside .labels, p .0 .depths-filled, p .0 .starts-filled),
-      meets-above meets (p .0 .beside .labels .parents) (omega (arith, p .1 .0 .0, p .0 .beside .one-map)) (omega (arith, p .1 .0 .1, p .0 .beside .one-map)) (c .before .before .before .before .if2 .left) (c .before .before .before .if3 .left),
+      meets-above meets (p .0 .beside .labels .parents) (omega (arith, p .1 .0 .0, p .0 .beside .one-map)) (omega (arith, p .1 .0 .1, p .0 .beside .one-map)) (not-y .before .if2 .left) (not-y .if3 .left),
     )
 
 returns-5 : tie.Need-returns-5
 returns-5 c =
-    let m = c .before .before .before .before .before .before .before in
+    let not-y = c .before .before .before .before .before in
+    let m = not-y .before .before .before in
     let e = m .before .before .before in
     let p = e .before .before .before .pre in
     let meets = meets-at _ _ _ (m .meeting .given .1) (m .before .before .deepest .ensures) in
-    let hops = c .before .before .mark-hoplinks .ensures in
-    (reach-across (p .0) meets (c .before .before .before .before .before .if2 .left) (c .before .before .before .before .if3 .left) hops (c .search-levels .ensures), hops .marks-length)
+    let hops = c .before .before .hold-hoplinks .ensures in
+    (reach-across (p .0) meets (not-y .before .if2 .left) (not-y .if3 .left) (hops .0) (c .search-levels .ensures), hops .1)
 
 pub reaches-spec : {M : Type 1} → statement M
 reaches-spec =
@@ -117,6 +119,6 @@ reaches-spec =
     find-list-requires-2
     list-reaches-requires-2
     returns-4
-    mark-hoplinks-requires
+    hold-hoplinks-requires
     search-levels-requires
     returns-5)

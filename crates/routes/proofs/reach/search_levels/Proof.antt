@@ -84,7 +84,7 @@ asked-requires c κs =
     let p = at .before .before .before .before .before .before .pre in
     let up = level-up (c .search-test .taken) in
     let now = at .search .inv .0 in
-    (levels-near now (p .0 .0) (p .1) up, levels-mark now (p .0 .0) (p .1) up)
+    ((levels-near now (p .0 .0) (p .1) up, levels-far now (p .0 .0) (p .1) up), levels-mark now (p .0 .0) (p .1) up)
 
 u16-at-requires : tie.Need-u16-at-requires Inv-loop μ-loop Inv-search μ-search
 u16-at-requires c κs =

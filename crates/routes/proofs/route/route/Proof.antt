@@ -1,24 +1,25 @@
 -- What is written so far, with the first route of the rest behind it, is the first route of the whole; at y nothing is left.
-use mathlib.Core.Path.{_≡_}
 use native.Mathlib.Omega.{arith}
-use lib.ListN.{length, length-set}
+use lib.ListN.{length-set}
+use Rattle.routes.specs.Searched.{Held}
+use Rattle.routes.proofs.Searching.{held-none}
 use Rattle.routes.proofs.RouteWay.{OnWay, way-start, way-room, way-more, way-less, way-end}
 use borrow.Author.Needs.{needs}
 use Rattle.routes.proofs.route.route.Statement.{statement}
 use Rattle.routes.proofs.route.route.Tie as tie
 
 abbrev Inv-loop : tie.InvT-loop
-Inv-loop net labels depths starts heads nexts x y junctions₀ marks₀ here₀ rest-time₀ rest-units₀ count₀ junctions marks here rest-time rest-units count =
-    OnWay net x y (rest-time₀ .0) (rest-units₀ .0) junctions count here (rest-time .0) (rest-units .0) × (length marks ≡ 1024)
+Inv-loop net labels depths starts heads nexts x y junctions₀ marks₀ here₀ rest-time₀ rest-units₀ count₀ held₀ junctions marks here rest-time rest-units count held =
+    OnWay net x y (rest-time₀ .0) (rest-units₀ .0) junctions count here (rest-time .0) (rest-units .0) × Held net labels held marks
 
 abbrev μ-loop : tie.MeasureT-loop
-μ-loop net labels depths starts heads nexts x y junctions₀ marks₀ here₀ rest-time₀ rest-units₀ count₀ junctions marks here rest-time rest-units count =
+μ-loop net labels depths starts heads nexts x y junctions₀ marks₀ here₀ rest-time₀ rest-units₀ count₀ held₀ junctions marks here rest-time rest-units count held =
     rest-time .0
 
 loop-holds : tie.Need-loop-holds Inv-loop μ-loop
 loop-holds c =
     let start = c .before .before in
-    (way-start (start .pre .1 .1 .0 .0) (start .pre .1 .1 .1 .0) (start .pre .1 .1 .1 .1 .0), start .pre .1 .1 .1 .1 .1)
+    (way-start (start .pre .1 .1 .0 .0) (start .pre .1 .1 .1 .0) (start .pre .1 .1 .1 .1 .0), held-none (start .pre .1 .1 .1 .1 .1) (omega (arith, start .pre .0 .beside .labels .parents .few-junctions)))
 
 cast-junctions : tie.Need-cast-junctions Inv-loop μ-loop
 cast-junctions c =
@@ -49,15 +50,15 @@ add-count c =
 
 step-road-requires : tie.Need-step-road-requires Inv-loop μ-loop
 step-road-requires c κs =
-    let loop = c .before .before in
+    let loop = c .before .before .before in
     let start = loop .before .before .before in
     let fits = start .pre .0 .beside .network in
     let way = loop .loop .inv .0 in
-    (start .pre .0, (start .pre .1 .0, ((way .on-map, start .pre .1 .1 .0 .1), (c .before .loop-test .taken, (way .line, loop .loop .inv .1)))))
+    (start .pre .0, (start .pre .1 .0, ((way .on-map, start .pre .1 .1 .0 .1), (c .before .before .loop-test .taken, (way .line, loop .loop .inv .1)))))
 
 road-time-requires : tie.Need-road-time-requires Inv-loop μ-loop
 road-time-requires c κs =
-    let loop = c .before .before .before in
+    let loop = c .before .before .before .before in
     let start = loop .before .before .before in
     let fits = start .pre .0 .beside .network in
     let way = loop .loop .inv .0 in
@@ -65,7 +66,7 @@ road-time-requires c κs =
 
 time-left-requires : tie.Need-time-left-requires Inv-loop μ-loop
 time-left-requires c κs =
-    let loop = c .before .before .before .before in
+    let loop = c .before .before .before .before .before in
     let start = loop .before .before .before in
     let fits = start .pre .0 .beside .network in
     let way = loop .loop .inv .0 in
@@ -73,7 +74,7 @@ time-left-requires c κs =
 
 road-energy-requires : tie.Need-road-energy-requires Inv-loop μ-loop
 road-energy-requires c κs =
-    let loop = c .before .before .before .before .before in
+    let loop = c .before .before .before .before .before .before in
     let start = loop .before .before .before in
     let fits = start .pre .0 .beside .network in
     let way = loop .loop .inv .0 in
@@ -81,7 +82,7 @@ road-energy-requires c κs =
 
 energy-left-requires : tie.Need-energy-left-requires Inv-loop μ-loop
 energy-left-requires c κs =
-    let loop = c .before .before .before .before .before .before in
+    let loop = c .before .before .before .before .before .before .before in
     let start = loop .before .before .before in
     let fits = start .pre .0 .beside .network in
     let way = loop .loop .inv .0 in
@@ -89,7 +90,7 @@ energy-left-requires c κs =
 
 other-end-requires : tie.Need-other-end-requires Inv-loop μ-loop
 other-end-requires c κs =
-    let loop = c .before .before .before .before .before .before .before in
+    let loop = c .before .before .before .before .before .before .before .before in
     let start = loop .before .before .before in
     let fits = start .pre .0 .beside .network in
     let way = loop .loop .inv .0 in
@@ -97,7 +98,7 @@ other-end-requires c κs =
 
 loop-less : tie.Need-loop-less Inv-loop μ-loop
 loop-less c =
-    let loop = c .before .before .before .before .before .before .before .before in
+    let loop = c .before .before .before .before .before .before .before .before .before in
     let start = loop .before .before .before in
     let fits = start .pre .0 .beside .network in
     let way = loop .loop .inv .0 in
@@ -106,7 +107,7 @@ loop-less c =
 
 loop-again : tie.Need-loop-again Inv-loop μ-loop
 loop-again c =
-    let loop = c .before .before .before .before .before .before .before .before in
+    let loop = c .before .before .before .before .before .before .before .before .before in
     let start = loop .before .before .before in
     let fits = start .pre .0 .beside .network in
     let way = loop .loop .inv .0 in
@@ -115,7 +116,7 @@ loop-again c =
     let seconds = spends .before in
     let takes = seconds .before in
     let stepped = takes .before in (
-      way-more fits way (stepped .before .before .loop-test .taken) (stepped .step-road .ensures .0) (c .other-end .ensures .is)
+      way-more fits way (stepped .before .before .before .loop-test .taken) (stepped .step-road .ensures .0) (c .other-end .ensures .is)
           (takes .road-time .ensures .is)
           (seconds .time-left .ensures)
           (spends .road-energy .ensures .is)
@@ -156,7 +157,7 @@ returns c =
     let start = loop .before .before .before in
     let fits = start .pre .0 .beside .network in
     let way = loop .loop .inv .0 in
-    (way-end fits way (c .loop-test .left), (simp length-set (way .places), loop .loop .inv .1))
+    (way-end fits way (c .loop-test .left), (simp length-set (way .places), loop .loop .inv .1 .places))
 
 pub route-spec : {M : Type 1} → statement M
 route-spec =

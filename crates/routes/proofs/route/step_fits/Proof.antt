@@ -41,14 +41,14 @@ energy-left-requires c κs = let second = c .before .before in not-below (second
 
 reaches-requires : tie.Need-reaches-requires
 reaches-requires c κs =
-    let other = c .before .before .before in
+    let other = c .before .before .before .before in
     let start = other .before .before .before .before .before .before .before .before .before in
     let on-map = other-on-map (start .pre .0 .beside .network) _ _ (start .pre .1 .1 .0) (start .pre .1 .1 .1 .0) in
     (start .pre .0, ((rw (other .other-end .ensures .is) on-map, start .pre .1 .0), start .pre .1 .1 .1 .1))
 
 returns-3 : tie.Need-returns-3
 returns-3 c =
-    let units = c .before .before in
+    let units = c .before .before .before in
     let seconds = units .before in
     let other = seconds .before in
     let second = other .before in

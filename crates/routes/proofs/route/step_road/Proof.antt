@@ -1,18 +1,18 @@
 -- No road of the junction before k fits; the pair is a path's, so the search ends at a road that does.
-use mathlib.Core.Path.{_≡_}
 use Prim.Native.Nat.{_-_}
 use native.Mathlib.Omega.{arith}
-use lib.ListN.{length}
+use Rattle.routes.specs.Searched.{Held}
 use Rattle.routes.proofs.RouteSteps.{RoadSearch, search-start, search-more, search-later, search-found, search-never, road-follows}
 use borrow.Author.Needs.{needs}
 use Rattle.routes.proofs.route.step_road.Statement.{statement}
 use Rattle.routes.proofs.route.step_road.Tie as tie
 
 abbrev Inv-loop : tie.InvT-loop
-Inv-loop net labels depths starts heads nexts here y time units marks₀ roads k₀ marks k = RoadSearch net here y (time .0) (units .0) k × (length marks ≡ 1024)
+Inv-loop net labels depths starts heads nexts here y time units held₀ marks₀ roads k₀ held marks k =
+    RoadSearch net here y (time .0) (units .0) k × Held net labels held marks
 
 abbrev μ-loop : tie.MeasureT-loop
-μ-loop net labels depths starts heads nexts here y time units marks₀ roads k₀ marks k = roads - k
+μ-loop net labels depths starts heads nexts here y time units held₀ marks₀ roads k₀ held marks k = roads - k
 
 u32-at-requires : tie.Need-u32-at-requires Inv-loop μ-loop
 u32-at-requires c κs = search needs
@@ -36,31 +36,31 @@ loop-holds c =
 
 step-fits-requires : tie.Need-step-fits-requires Inv-loop μ-loop
 step-fits-requires c κs =
-    let loop = c .before .before in
+    let loop = c .before .before .before in
     let start = loop .before .before .before .before .before .before .before in
     (start .pre .0, (start .pre .1 .1 .0 .1, (omega arith, (loop .loop .inv .0 .at-start (omega arith), loop .loop .inv .1))))
 
 returns : tie.Need-returns Inv-loop μ-loop
 returns c =
-    let loop = c .before .before .before .before in
+    let loop = c .before .before .before .before .before in
     let start = loop .before .before .before .before .before .before .before in
     (search-found (start .pre .0 .beside .network) (loop .loop .inv .0) (omega arith) (c .before .step-fits .ensures .0 .holds (c .if1 .taken)), c .before .step-fits .ensures .1)
 
 next-road-requires : tie.Need-next-road-requires Inv-loop μ-loop
 next-road-requires c κs =
-    let loop = c .before .before .before .before in
+    let loop = c .before .before .before .before .before in
     let start = loop .before .before .before .before .before .before .before in
     road-follows (start .pre .0 .beside .network) (start .pre .1 .0) (loop .loop .inv .0) (omega arith)
 
 loop-less : tie.Need-loop-less Inv-loop μ-loop
 loop-less c =
-    let loop = c .before .before .before .before .before in
+    let loop = c .before .before .before .before .before .before in
     let start = loop .before .before .before .before .before .before .before in
     omega (arith, search-later (start .pre .0 .beside .network) _ (c .next-road .ensures))
 
 loop-again : tie.Need-loop-again Inv-loop μ-loop
 loop-again c =
-    let loop = c .before .before .before .before .before in
+    let loop = c .before .before .before .before .before .before in
     let start = loop .before .before .before .before .before .before .before in
     let tested = c .before .before in
     (search-more (start .pre .0 .beside .network) (loop .loop .inv .0) (tested .step-fits .ensures .0 .fails (c .before .if1 .left)) (c .next-road .ensures), tested .step-fits .ensures .1)
