@@ -1,4 +1,5 @@
 -- Why a route is the first and a list is whole. Read in this order.
+pub mod Climbing
 pub mod Searching
 pub mod RouteSteps
 pub mod RouteWay

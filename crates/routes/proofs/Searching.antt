@@ -1,6 +1,6 @@
 -- The search for an entry, or for a sum of two entries, that takes no more than a pair in either figure.
 -- In this order: lists in the file; down a list; one list; two lists; level by level; what the paths have.
-use mathlib.Core.Path.{_≡_, refl, sym, ap, _∙_}
+use mathlib.Core.Path.{_≡_, refl, sym, ap, _∙_, subst}
 use mathlib.Core.Bool.{Bool, true, false}
 use mathlib.Core.List.{List, List·Memᴰ}
 use Prim.Native.Nat.{ℕ, zero, suc, _+_, _-_, _*_, _≤_, _<_}
@@ -19,19 +19,24 @@ use Rattle.lists.specs.Entries.{Weight}
 use Rattle.lists.specs.Cover.{Decides}
 use Rattle.forest.specs.LabelFile.{parentsOf, countAt, timeAt, energyAt, listEnd}
 use Rattle.forest.specs.Forest.{depthOf}
-use Rattle.stored.specs.Stored.{listAt, stored}
+use Rattle.forest.proofs.Forest.{above-shallower}
+use Rattle.stored.specs.Stored.{listsBefore, placeOf, listAt, stored}
 use Rattle.stored.specs.Formed.{Formed, ListFits}
-use Rattle.stored.specs.Scanned.{FoundList}
+use Rattle.stored.specs.Scanned.{further}
+use Rattle.stored.proofs.Places.{further-none, further-next, further-place}
 use Rattle.stored.proofs.Tabulate.{Stands, member-stands, tabulate-member}
 use Rattle.agree.proofs.Exactness.{parents-forest, roads-joined}
-use Rattle.hoplinks.specs.Meeting.{MeetsAt, HopMarks}
+use Rattle.hoplinks.specs.Meeting.{HopMarks}
 use Rattle.query.specs.Prepared.{Prepared}
 use Rattle.query.specs.AnswerFrom.{EntryOf}
 use Rattle.query.specs.Levels.{behind, LevelSum, MarkedSum, Branches}
 use Rattle.routes.specs.Reach.{PathWithin}
-use Rattle.routes.specs.Searched.{HasWithin, FittingFrom, CoversAt, NoSum, Asked, Held}
-use Rattle.query.proofs.MarkedSums.{level-place, level-next, level-fits}
-use Rattle.query.proofs.WholeAnswers.{StandsFor, proper, tradeOff-stands, stored-up, stored-down, marked-stands}
+use Rattle.routes.specs.Searched.{HasWithin, ListsUp, SumUp, FittingFrom, CoversAt, NoSum, Asked, Held}
+use Rattle.routes.specs.declared.climb.Met.{Met}
+use Rattle.routes.specs.declared.climb.Met.the-variants.{At, Nowhere}
+use Rattle.routes.specs.Climbing.{MeetsWith, Meets}
+use Rattle.query.proofs.MarkedSums.{level-place, level-fits}
+use Rattle.query.proofs.WholeAnswers.{StandsFor, proper, tradeOff-stands, stored-up, stored-down, marked-stands, meets-start, meets-finish}
 
 -- false is not true
 not-both : {A : Type 0} → _≡_ {A = Bool} false true → A
@@ -314,57 +319,57 @@ pub level-up : {left : ℕ} → 0 < left → left ≡ suc (left - 1)
 level-up h = omega arith
 
 -- At the marked levels from `left` on no sum takes so little, and the places stand at the lists of the next level up
-pub record LevelSearch (s marks : List ℕ) (x y high seconds units left near far : ℕ) : Type 0 where
-  pub few : left ≤ high
-  pub near-is : near ≡ behind s x left
-  pub far-is : far ≡ behind s y left
-  pub none : (q : Weight) → MarkedSum s marks x y left high q → weights energy ._⊑_ q (pair seconds units) → ⊥
+pub record LevelSearch (s marks : List ℕ) (near-list far-list depth seconds units left near far : ℕ) : Type 0 where
+  pub few : left ≤ suc depth
+  pub near-is : near ≡ further s near-list (suc depth - left)
+  pub far-is : far ≡ further s far-list (suc depth - left)
+  pub none : (q : Weight) → SumUp s marks near-list far-list depth left q → weights energy ._⊑_ q (pair seconds units) → ⊥
 
 -- no level is searched yet
 pub levels-start :
-    {s : List ℕ} (marks : List ℕ) {x y l left near far : ℕ} (seconds units : ℕ) → FoundList s x l near → FoundList s y l far → left ≡ suc (depthOf s l) →
-    LevelSearch s marks x y (suc (depthOf s l)) seconds units left near far
-levels-start {s} marks {x} {y} {l} {left} seconds units one two e =
+    (s marks : List ℕ) (near-list far-list depth seconds units : ℕ) {left : ℕ} → left ≡ suc depth →
+    LevelSearch s marks near-list far-list depth seconds units left near-list far-list
+levels-start s marks near-list far-list depth seconds units {left} e =
     record {
       few = omega arith;
-      near-is = one .place ∙ level-place s x l refl ∙ ap (behind s x) (sym e);
-      far-is = two .place ∙ level-place s y l refl ∙ ap (behind s y) (sym e);
+      near-is = sym (further-none s near-list) ∙ ap (further s near-list) (omega arith);
+      far-is = sym (further-none s far-list) ∙ ap (further s far-list) (omega arith);
       none = λ q h small. omega (arith, h .not-below, h .not-above);
     }
 
-module _ {s marks : List ℕ} {x y l seconds units left level near far : ℕ}
-    (now : LevelSearch s marks x y (suc (depthOf s l)) seconds units left near far) (formed : Formed s) (branches : Branches s x y l)
-    (e : left ≡ suc level) where
-  -- both lists of the level fit, and it has a mark
-  pub levels-near : ListFits s near
-  levels-near = rw (now .near-is, e) (level-fits formed (branches .x-on-map) (omega (arith, now .few, branches .below-x)))
+module _ {s marks : List ℕ} {near-list far-list depth seconds units left level near far : ℕ}
+    (now : LevelSearch s marks near-list far-list depth seconds units left near far) (e : left ≡ suc level) where
+  -- as many lists were passed as levels
+  near-here : near ≡ further s near-list (depth - level)
+  near-here = now .near-is ∙ ap (further s near-list) (omega arith)
 
-  pub levels-far : ListFits s far
-  levels-far = rw (now .far-is, e) (level-fits formed (branches .y-on-map) (omega (arith, now .few, branches .below-y)))
+  far-here : far ≡ further s far-list (depth - level)
+  far-here = now .far-is ∙ ap (further s far-list) (omega arith)
 
-  pub levels-mark : level < 1024
-  levels-mark = omega (arith, now .few, formed .parents .ends l (branches .l-on-map), formed .parents .few-junctions)
+  -- both lists of the level fit
+  pub levels-near : ListsUp s near-list depth → ListFits s near
+  levels-near lists = rw near-here (lists .fits (depth - level) (omega arith))
 
-  near-here : near ≡ behind s x (suc level)
-  near-here = now .near-is ∙ ap (behind s x) e
+  pub levels-far : ListsUp s far-list depth → ListFits s far
+  levels-far lists = rw far-here (lists .fits (depth - level) (omega arith))
 
-  far-here : far ≡ behind s y (suc level)
-  far-here = now .far-is ∙ ap (behind s y) e
+  -- it has a mark
+  pub levels-mark : depth < 1024 → level < 1024
+  levels-mark h = omega (arith, now .few)
 
   -- a level without such a sum
   pub levels-more :
       {near′ far′ : ℕ} → ((q : Weight) → LevelSum s marks level near far q → weights energy ._⊑_ q (pair seconds units) → ⊥) →
-      near′ ≡ listEnd s near → far′ ≡ listEnd s far → LevelSearch s marks x y (suc (depthOf s l)) seconds units level near′ far′
+      near′ ≡ listEnd s near → far′ ≡ listEnd s far → LevelSearch s marks near-list far-list depth seconds units level near′ far′
   levels-more nothing is-near is-far =
       record {
         few = omega (arith, now .few);
-        near-is = is-near ∙ ap (listEnd s) near-here ∙ level-next s x level (omega (arith, now .few, branches .below-x));
-        far-is = is-far ∙ ap (listEnd s) far-here ∙ level-next s y level (omega (arith, now .few, branches .below-y));
+        near-is = is-near ∙ ap (listEnd s) near-here ∙ sym (further-next s near-list (depth - level)) ∙ ap (further s near-list) (omega (arith, now .few));
+        far-is = is-far ∙ ap (listEnd s) far-here ∙ sym (further-next s far-list (depth - level)) ∙ ap (further s far-list) (omega (arith, now .few));
         none = λ q h small. pick q h small (ℕ-discrete (h .level) level);
       }
     where
-      pick :
-          (q : Weight) (h : MarkedSum s marks x y level (suc (depthOf s l)) q) → weights energy ._⊑_ q (pair seconds units) → Dec (h .level ≡ level) → ⊥
+      pick : (q : Weight) (h : SumUp s marks near-list far-list depth level q) → weights energy ._⊑_ q (pair seconds units) → Dec (h .level ≡ level) → ⊥
       pick q h small (yes same) = nothing q (rw (near-here, far-here) (rw same at (h .here))) small
       pick q h small (no apart) =
           now .none q (record { level = h .level; not-below = omega (arith, h .not-below); not-above = h .not-above; here = h .here }) small
@@ -372,7 +377,7 @@ module _ {s marks : List ℕ} {x y l seconds units left level near far : ℕ}
   -- a sum at a marked level
   pub levels-found :
       getD marks level 0 ≡ 1 → HasWithin (IsSum energy (listAt s near) (listAt s far)) (pair seconds units) →
-      HasWithin (MarkedSum s marks x y 0 (suc (depthOf s l))) (pair seconds units)
+      HasWithin (SumUp s marks near-list far-list depth 0) (pair seconds units)
   levels-found marked z =
       record {
         one = z .one;
@@ -388,9 +393,10 @@ module _ {s marks : List ℕ} {x y l seconds units left level near far : ℕ}
 
 -- no level is left
 pub levels-end :
-    {s marks : List ℕ} {x y high seconds units left near far : ℕ} {answer : Bool} → LevelSearch s marks x y high seconds units left near far → left ≤ 0 →
-    answer ≡ false → Decides (HasWithin (MarkedSum s marks x y 0 high) (pair seconds units)) answer
-levels-end {s} {marks} {x} {y} {high} {seconds} {units} {left} now h e =
+    {s marks : List ℕ} {near-list far-list depth seconds units left near far : ℕ} {answer : Bool} →
+    LevelSearch s marks near-list far-list depth seconds units left near far → left ≤ 0 → answer ≡ false →
+    Decides (HasWithin (SumUp s marks near-list far-list depth 0) (pair seconds units)) answer
+levels-end {s} {marks} {near-list} {far-list} {depth} {seconds} {units} {left} now h e =
     record { holds = λ q. not-both (sym e ∙ q); fails = λ q z. now .none (z .one) (rw none-left (z .among)) (z .no-larger) }
   where
     none-left : left ≡ 0
@@ -401,6 +407,10 @@ pub found-yes : {P : Type 0} → P → Decides P true
 found-yes p = record { holds = λ q. p; fails = λ q. not-both (sym q) }
 
 -- ---- What the paths have
+
+-- a junction of the network is one of the labels
+pub on-labels : {net s depths starts : List ℕ} {v : ℕ} → Prepared net s depths starts → v < junctionsOf net → v < junctionsOf s
+on-labels prepared h = omega (arith, prepared .beside .one-map)
 
 -- a set that stands for all paths has such a pair if there is such a path
 pub stands-decides :
@@ -432,16 +442,67 @@ module _ {net s : List ℕ} {l held : ℕ} {marks : List ℕ} where
 pub held-none : {net s marks : List ℕ} {held : ℕ} → length marks ≡ 1024 → junctionsOf s ≤ held → Held net s held marks
 held-none places h = record { places = places; kept = λ g. absurd (omega arith) }
 
+-- the answer told: where they meet, or nowhere
+module _ (s : List ℕ) (x y : ℕ) where
+  pub told-at : {l near far : ℕ} {r : Met} → r ≡ At l near far → Meets s x y r → MeetsWith s x y l near far
+  told-at e h = subst (Meets s x y) e h
+
+  pub told-nowhere : {r : Met} → r ≡ Nowhere → Meets s x y r → (u : ℕ) → Common (parentsOf s) x y u → ⊥
+  told-nowhere e h = subst (Meets s x y) e h
+
 -- a junction reaches itself within anything
 pub reach-itself : {net : List ℕ} {x y : ℕ} {p : Weight} → x ≡ y → Decides (PathWithin net x y p) true
 unfolding weight
 reach-itself e = found-yes (rw (← e) (record { walk = stay; no-larger = (omega arith, omega arith) }))
 
--- what was found is the stored list
-found-right :
-    {net s : List ℕ} {x y v u at : ℕ} → FoundList s v u at → IsTradeOff (networkOf net) x y (stored s v u) → IsTradeOff (networkOf net) x y (listAt s at)
+module _ {s : List ℕ} (formed : Formed s) {v depth at : ℕ} (on-map : v < junctionsOf s) (deep : depth < depthOf s v) (e : at ≡ behind s v (suc depth)) where
+  -- the lists of v for its ancestor at that depth, and for those above, stand one behind the other
+  levels-behind : (k level : ℕ) → k + level ≡ depth → further s at k ≡ behind s v (suc level)
+  levels-behind k level h =
+      ap (λ a. further s a k) e ∙ further-place s (listsBefore s v + (depthOf s v - suc depth)) k ∙ ap (placeOf s) (omega arith)
+
+  -- so all of them fit
+  lists-up : ListsUp s at depth
+  lists-up = record { fits = λ k h. rw (levels-behind k (depth - k) (omega arith)) (level-fits formed on-map (omega arith)) }
+
+-- The list of v for its ancestor u is at byte `at`
+pub record ListTo (s : List ℕ) (v u at : ℕ) : Type 0 where
+  pub above : Above (parentsOf s) u v
+  pub place : at ≡ behind s v (suc (depthOf s u))
+
+-- it is the stored one
+list-stored : {s : List ℕ} {v u at : ℕ} → ListTo s v u at → listAt s at ≡ stored s v u
 unfolding stored
-found-right found right = rw (found .place) right
+list-stored {s} {v} {u} list = ap (listAt s) (list .place ∙ sym (level-place s v u refl))
+
+-- and it fits
+pub list-fits : {s : List ℕ} {v u at : ℕ} → Formed s → v < junctionsOf s → ListTo s v u at → ListFits s at
+list-fits {s} formed on-map list = rw (list .place) (level-fits formed on-map (above-shallower s (formed .parents .ends) (list .above)))
+
+module _ {s : List ℕ} (formed : Formed s) {x y l near far : ℕ} (met : MeetsWith s x y l near far) (apart : x ≡ y → ⊥) where
+  -- they meet at one of the two: the other has a list for it
+  pub met-start : l ≡ x → ListTo s y x far
+  met-start e =
+      let above = meets-start (met .meets) e apart in
+      record { above = above; place = rw e at (met .far-place (rw e (above-shallower s (formed .parents .ends) above))) }
+
+  pub met-finish : l ≡ y → ListTo s x y near
+  met-finish e =
+      let above = meets-finish (met .meets) e apart in
+      record { above = above; place = rw e at (met .near-place (rw e (above-shallower s (formed .parents .ends) above))) }
+
+module _ {s : List ℕ} (formed : Formed s) {x y l near far depth : ℕ} (met : MeetsWith s x y l near far) (branches : Branches s x y l)
+    (e : depth ≡ depthOf s l) where
+  -- they meet above both: each has lists for that junction and for all above it
+  pub near-lists : ListsUp s near depth
+  near-lists = rw e (lists-up formed (branches .x-on-map) (branches .below-x) (met .near-place (branches .below-x)))
+
+  pub far-lists : ListsUp s far depth
+  far-lists = rw e (lists-up formed (branches .y-on-map) (branches .below-y) (met .far-place (branches .below-y)))
+
+  -- a depth has a mark
+  pub depth-mark : depth < 1024
+  depth-mark = omega (arith, formed .parents .ends l (branches .l-on-map), formed .parents .few-junctions)
 
 module _ {net s depths starts : List ℕ} (prepared : Prepared net s depths starts) {x y : ℕ} {p : Weight} where
   -- junctions of different trees
@@ -454,19 +515,52 @@ module _ {net s depths starts : List ℕ} (prepared : Prepared net s depths star
 
   module _ {answer : Bool} where
     -- a junction and one above it, either way round
-    pub reach-up :
-        {at : ℕ} → Above (parentsOf s) y x → FoundList s x y at → Decides (HasWithin (EntryOf (listAt s at)) p) answer → Decides (PathWithin net x y p) answer
-    reach-up above found decides = stands-decides (tradeOff-stands (found-right found (stored-up prepared above))) decides
+    pub reach-up : {at : ℕ} → ListTo s x y at → Decides (HasWithin (EntryOf (listAt s at)) p) answer → Decides (PathWithin net x y p) answer
+    reach-up list decides = stands-decides (tradeOff-stands (rw (list-stored list) (stored-up prepared (list .above)))) decides
 
-    pub reach-down :
-        {at : ℕ} → Above (parentsOf s) x y → FoundList s y x at → Decides (HasWithin (EntryOf (listAt s at)) p) answer → Decides (PathWithin net x y p) answer
-    reach-down above found decides = stands-decides (tradeOff-stands (found-right found (stored-down prepared above))) decides
+    pub reach-down : {at : ℕ} → ListTo s y x at → Decides (HasWithin (EntryOf (listAt s at)) p) answer → Decides (PathWithin net x y p) answer
+    reach-down list decides = stands-decides (tradeOff-stands (rw (list-stored list) (stored-down prepared (list .above)))) decides
 
     -- two branches
     pub reach-across :
-        {l : ℕ} {marks : List ℕ} → MeetsAt s x y l → (l ≡ x → ⊥) → (l ≡ y → ⊥) → HopMarks net s l marks →
-        Decides (HasWithin (MarkedSum s marks x y 0 (suc (depthOf s l))) p) answer → Decides (PathWithin net x y p) answer
-    reach-across meets not-x not-y hops decides =
-        stands-decides
-        (marked-stands prepared (proper not-x (meets .deepest .common .of-start)) (proper not-y (meets .deepest .common .of-finish)) (meets .deepest) (meets .on-map) hops)
-        decides
+        {l near far depth : ℕ} {marks : List ℕ} → MeetsWith s x y l near far → Branches s x y l → depth ≡ depthOf s l → (l ≡ x → ⊥) → (l ≡ y → ⊥) →
+        HopMarks net s l marks → Decides (HasWithin (SumUp s marks near far depth 0) p) answer → Decides (PathWithin net x y p) answer
+    reach-across {l} {near} {far} {marks = marks} met branches e not-x not-y hops decides = stands-decides stands (rw e at decides)
+      where
+        near-at : (level : ℕ) → level ≤ depthOf s l → further s near (depthOf s l - level) ≡ behind s x (suc level)
+        near-at level h = levels-behind (prepared .beside .labels) (branches .x-on-map) (branches .below-x) (met .near-place (branches .below-x)) (depthOf s l - level) level (omega arith)
+
+        far-at : (level : ℕ) → level ≤ depthOf s l → further s far (depthOf s l - level) ≡ behind s y (suc level)
+        far-at level h = levels-behind (prepared .beside .labels) (branches .y-on-map) (branches .below-y) (met .far-place (branches .below-y)) (depthOf s l - level) level (omega arith)
+
+        marked : StandsFor net x y (MarkedSum s marks x y 0 (suc (depthOf s l)))
+        marked =
+            marked-stands prepared (proper not-x (met .meets .deepest .common .of-start)) (proper not-y (met .meets .deepest .common .of-finish)) (met .meets .deepest) (met .meets .on-map) hops
+
+        -- the sums at the marked levels, by the places of their lists
+        stands : StandsFor net x y (SumUp s marks near far (depthOf s l) 0)
+        stands =
+            record {
+              real = λ h.
+                  marked .real (
+                  record {
+                    level = h .level;
+                    not-below = h .not-below;
+                    not-above = omega (arith, h .not-above);
+                    here = rw (near-at (h .level) (h .not-above), far-at (h .level) (h .not-above)) at (h .here);
+                  });
+              below = λ w.
+                  let z = marked .below w in
+                  let low : z .among .level ≤ depthOf s l = omega (arith, z .among .not-above) in
+                  record {
+                    one = z .one;
+                    among =
+                        record {
+                          level = z .among .level;
+                          not-below = z .among .not-below;
+                          not-above = low;
+                          here = rw (near-at (z .among .level) low, far-at (z .among .level) low) (z .among .here);
+                        };
+                    no-larger = z .no-larger;
+                  };
+            }

@@ -7,13 +7,27 @@ use Rattle.paths.specs.Weights.{weights, energy}
 use Rattle.lists.specs.Entries.{Weight}
 use Rattle.network.specs.NetworkFile.{junctionsOf}
 use Rattle.forest.specs.LabelFile.{countAt, timeAt, energyAt}
+use Rattle.stored.specs.Formed.{ListFits}
+use Rattle.stored.specs.Scanned.{further}
 use Rattle.hoplinks.specs.Meeting.{HopMarks}
+use Rattle.query.specs.Levels.{LevelSum}
 
 -- A pair of the set takes no more than p
 pub record HasWithin (Has : Weight → Type 0) (p : Weight) : Type 0 where
   pub one : Weight
   pub among : Has one
   pub no-larger : weights energy ._⊑_ one p
+
+-- The list at byte `at` fits, and so do the lists behind it, as many as `depth`
+pub record ListsUp (s : List ℕ) (at depth : ℕ) : Type 0 where
+  pub fits : (k : ℕ) → k ≤ depth → ListFits s (further s at k)
+
+-- p is a sum at a marked level from `low` to `depth`: two lists for the level `depth`, and behind each those for the levels above it
+pub record SumUp (s marks : List ℕ) (near far depth low : ℕ) (p : Weight) : Type 0 where
+  pub level : ℕ
+  pub not-below : low ≤ level
+  pub not-above : level ≤ depth
+  pub here : LevelSum s marks level (further s near (depth - level)) (further s far (depth - level)) p
 
 -- Of the first `from` entries of the list at byte `at`, the first r fit beside so much energy
 pub record FittingFrom (s : List ℕ) (at beside units from r : ℕ) : Type 0 where

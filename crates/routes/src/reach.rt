@@ -1,32 +1,31 @@
 // Whether a path takes no more than a pair in either figure: what the route's step asks. Stored lists are read where they stand.
-use hoplinks::Meeting;
+use super::climb::Met;
+use super::climb::meet;
 use hoplinks::hoplinks::mark_hoplinks;
-use hoplinks::meet::deepest;
 use network::bytes::u16_at;
 use paths::energy::Energy;
 use paths::seconds::Seconds;
 use stored::place::Place;
-use stored::place::find_list;
+use stored::place::number_of;
 use stored::stored::energy_at;
 use stored::stored::time_at;
 ghost use mathlib.Core.Path.{_≡_};
 ghost use mathlib.Core.Bool.{false};
-ghost use Prim.Native.Nat.{suc, _≤_, _<_};
+ghost use Prim.Native.Nat.{_≤_, _<_};
+ghost use lib.ListN.{length};
 ghost use Rattle.paths.specs.Weights.{pair};
 ghost use Rattle.network.specs.NetworkFile.{junctionsOf};
 ghost use Rattle.lists.specs.Cover.{Decides};
 ghost use Rattle.forest.specs.LabelFile.{countAt};
-ghost use Rattle.stored.specs.ListForm.{mostFigure};
-ghost use Rattle.forest.specs.Forest.{depthOf};
+ghost use Rattle.stored.specs.ListForm.{mostBytes, mostFigure};
 ghost use Rattle.stored.specs.Stored.{listAt};
 ghost use Rattle.forest.specs.Fits.{DepthsFilled};
-ghost use Rattle.stored.specs.Formed.{Formed, StartsFilled, ListFits, Beside};
+ghost use Rattle.stored.specs.Formed.{ListFits, Beside};
 ghost use Rattle.hoplinks.specs.Meeting.{HopMarks};
 ghost use Rattle.query.specs.Prepared.{Prepared};
 ghost use Rattle.query.specs.AnswerFrom.{EntryOf};
-ghost use Rattle.query.specs.Levels.{MarkedSum, Branches};
 ghost use Rattle.routes.specs.Reach.{PathWithin};
-ghost use Rattle.routes.specs.Searched.{HasWithin, FittingFrom, CoversAt, NoSum, Asked, Held};
+ghost use Rattle.routes.specs.Searched.{HasWithin, ListsUp, SumUp, FittingFrom, CoversAt, NoSum, Asked, Held};
 
 fn wide(x: u32) -> usize
     ensures { λ r. ⌜ r ≡ x ⌝ }
@@ -125,29 +124,27 @@ fn covers(labels: &[u8], near: usize, i: usize, far: usize, j: usize, time: Seco
     sum.at_most(time)
 }
 
-// Whether a sum of the two junctions' lists for a marked ancestor takes no more than (time, units). The search stops at the first entry
-// that covers the pair, out of both loops.
+// Whether a sum at a marked level takes no more than (time, units): the two lists for the level `depth`, then those for the levels above it.
+// The search stops at the first entry that covers the pair, out of both loops.
 fn search_levels(
     labels: &[u8],
-    depths: &[u32; 1024],
-    starts: &[u32; 1024],
     marks: &[u8; 1024],
-    x: usize,
-    y: usize,
-    l: usize,
+    near_list: usize,
+    far_list: usize,
+    depth: usize,
     time: Seconds,
     units: Energy,
 ) -> bool
-    requires { ⌜ Formed (now labels) × DepthsFilled (now labels) (now depths) × StartsFilled (now labels) (now starts) ⌝ }
-    requires { ⌜ Branches (now labels) x y l ⌝ }
+    requires { ⌜ (length (now labels) ≤ mostBytes) × (depth < 1024) ⌝ }
+    requires { ⌜ ListsUp (now labels) «near_list» depth × ListsUp (now labels) «far_list» depth ⌝ }
     ensures { λ r.
         ⌜ Decides
-        (HasWithin (MarkedSum (now (labels .entry)) (now (marks .entry)) x y 0 (suc (depthOf (now (labels .entry)) l))) (pair (time .0) (units .0)))
+        (HasWithin (SumUp (now (labels .entry)) (now (marks .entry)) «near_list» «far_list» depth 0) (pair (time .0) (units .0)))
         r ⌝ }
 {
-    let mut near = find_list(labels, depths, starts, x, l);
-    let mut far = find_list(labels, depths, starts, y, l);
-    let mut left = wide(depths[l]) + 1;
+    let mut near = Place { at: near_list };
+    let mut far = Place { at: far_list };
+    let mut left = depth + 1;
     let mut found = false;
     'search: while left > 0 {
         left -= 1;
@@ -213,20 +210,16 @@ pub fn reaches(
     if x == y {
         return true;
     }
-    let meeting = deepest(labels, depths, x, y);
-    let Meeting::At(l) = meeting else {
+    let met = meet(labels, depths, starts, x, y);
+    let Met::At(l, near, far) = met else {
         return false;
     };
     if l == x {
-        let place = find_list(labels, depths, starts, y, x);
-        let at = place.at;
-        return list_reaches(labels, at, time, units);
+        return list_reaches(labels, far, time, units);
     }
     if l == y {
-        let place = find_list(labels, depths, starts, x, y);
-        let at = place.at;
-        return list_reaches(labels, at, time, units);
+        return list_reaches(labels, near, time, units);
     }
     hold_hoplinks(net, labels, depths, l, held, marks);
-    search_levels(labels, depths, starts, marks, x, y, l, time, units)
+    search_levels(labels, marks, near, far, number_of(depths, l), time, units)
 }

@@ -1,9 +1,23 @@
 -- A junction and itself, two trees, one above the other, two branches: in each case the pairs that are searched stand for all paths.
+use mathlib.Core.Path.{_∙_}
 use native.Mathlib.Omega.{arith}
-use Rattle.forest.proofs.Forest.{above-shallower}
-use Rattle.stored.proofs.Places.{found-fits}
-use Rattle.query.proofs.WholeAnswers.{meets-at, meets-nowhere, meets-start, meets-finish, meets-above}
-use Rattle.routes.proofs.Searching.{reach-itself, reach-apart, reach-up, reach-down, reach-across}
+use Rattle.query.proofs.WholeAnswers.{meets-above}
+use Rattle.routes.proofs.Searching.{
+  on-labels,
+  told-at,
+  told-nowhere,
+  list-fits,
+  met-start,
+  met-finish,
+  near-lists,
+  far-lists,
+  depth-mark,
+  reach-itself,
+  reach-apart,
+  reach-up,
+  reach-down,
+  reach-across,
+}
 use borrow.Author.Needs.{needs}
 use Rattle.routes.proofs.reach.reaches.Statement.{statement}
 use Rattle.routes.proofs.reach.reaches.Tie as tie
@@ -11,11 +25,13 @@ use Rattle.routes.proofs.reach.reaches.Tie as tie
 returns : tie.Need-returns
 returns c = (reach-itself (c .if1 .taken), c .before .before .before .pre .1 .1)
 
-deepest-requires : tie.Need-deepest-requires
-deepest-requires c κs = search needs
+meet-requires : tie.Need-meet-requires
+meet-requires c κs =
+    let p = c .before .before .before .pre in
+    ((p .0 .beside .labels, p .0 .depths-filled, p .0 .starts-filled), (on-labels (p .0) (p .1 .0 .0), on-labels (p .0) (p .1 .0 .1)))
 
-enum-known-meeting : tie.Need-enum-known-meeting
-enum-known-meeting c = search needs
+enum-known-met : tie.Need-enum-known-met
+enum-known-met c = search needs
 
 enum-told : tie.Need-enum-told
 enum-told c = search needs
@@ -23,102 +39,94 @@ enum-told c = search needs
 returns-2 : tie.Need-returns-2
 returns-2 c =
     let p = c .before .before .before .before .before .before .pre in
-    (reach-apart (p .0) (meets-nowhere _ _ _ (c .enum-told .given .1) (c .before .before .deepest .ensures)), p .1 .1)
-
-find-list-requires : tie.Need-find-list-requires
-find-list-requires c κs =
-    let m = c .before .before in
-    let e = m .before .before .before in
-    let p = e .before .before .before .pre in
-    let meets = meets-at _ _ _ (m .meeting .given .1) (m .before .before .deepest .ensures) in
-    let above = meets-start meets (c .if2 .taken) (e .if1 .left) in
-    (p .0 .beside .labels, (p .0 .depths-filled, (p .0 .starts-filled, ((omega (arith, p .1 .0 .1, p .0 .beside .one-map), omega (arith, p .1 .0 .0, p .0 .beside .one-map)), above-shallower _ (p .0 .beside .labels .parents .ends) above))))
+    (reach-apart (p .0) (told-nowhere _ _ _ (c .enum-told .given .1) (c .before .before .meet .ensures)), p .1 .1)
 
 list-reaches-requires : tie.Need-list-reaches-requires
 list-reaches-requires c κs =
-    let m = c .before .before .before in
+    let m = c .before .before in
     let e = m .before .before .before in
     let p = e .before .before .before .pre in
-    found-fits (p .0 .beside .labels) (c .find-list .ensures)
+    let met = told-at _ _ _ (m .met .given .1) (m .before .before .meet .ensures) in
+    list-fits (p .0 .beside .labels) (on-labels (p .0) (p .1 .0 .1)) (met-start (p .0 .beside .labels) met (e .if1 .left) (c .if2 .taken))
 
 returns-3 : tie.Need-returns-3
 returns-3 c =
-    let m = c .before .before .before .before in
-    let e = m .before .before .before in
-    let p = e .before .before .before .pre in
-    let meets = meets-at _ _ _ (m .meeting .given .1) (m .before .before .deepest .ensures) in
-    let above = meets-start meets (c .before .before .if2 .taken) (e .if1 .left) in
-    (reach-down (p .0) above (c .before .find-list .ensures) (c .list-reaches .ensures), p .1 .1)
-
-find-list-requires-2 : tie.Need-find-list-requires-2
-find-list-requires-2 c κs =
     let m = c .before .before .before in
     let e = m .before .before .before in
     let p = e .before .before .before .pre in
-    let meets = meets-at _ _ _ (m .meeting .given .1) (m .before .before .deepest .ensures) in
-    let above = meets-finish meets (c .if3 .taken) (e .if1 .left) in
-    (p .0 .beside .labels, (p .0 .depths-filled, (p .0 .starts-filled, ((omega (arith, p .1 .0 .0, p .0 .beside .one-map), omega (arith, p .1 .0 .1, p .0 .beside .one-map)), above-shallower _ (p .0 .beside .labels .parents .ends) above))))
+    let met = told-at _ _ _ (m .met .given .1) (m .before .before .meet .ensures) in
+    (reach-down (p .0) (met-start (p .0 .beside .labels) met (e .if1 .left) (c .before .if2 .taken)) (c .list-reaches .ensures), p .1 .1)
 
 list-reaches-requires-2 : tie.Need-list-reaches-requires-2
 list-reaches-requires-2 c κs =
-    let m = c .before .before .before .before in
+    let m = c .before .before .before in
     let e = m .before .before .before in
     let p = e .before .before .before .pre in
-    found-fits (p .0 .beside .labels) (c .find-list2 .ensures)
+    let met = told-at _ _ _ (m .met .given .1) (m .before .before .meet .ensures) in
+    list-fits (p .0 .beside .labels) (on-labels (p .0) (p .1 .0 .0)) (met-finish (p .0 .beside .labels) met (e .if1 .left) (c .if3 .taken))
 
 returns-4 : tie.Need-returns-4
 returns-4 c =
-    let m = c .before .before .before .before .before in
+    let m = c .before .before .before .before in
     let e = m .before .before .before in
     let p = e .before .before .before .pre in
-    let meets = meets-at _ _ _ (m .meeting .given .1) (m .before .before .deepest .ensures) in
-    let above = meets-finish meets (c .before .before .if3 .taken) (e .if1 .left) in
-    (reach-up (p .0) above (c .before .find-list2 .ensures) (c .list-reaches2 .ensures), p .1 .1)
+    let met = told-at _ _ _ (m .met .given .1) (m .before .before .meet .ensures) in
+    (reach-up (p .0) (met-finish (p .0 .beside .labels) met (e .if1 .left) (c .before .if3 .taken)) (c .list-reaches2 .ensures), p .1 .1)
 
 hold-hoplinks-requires : tie.Need-hold-hoplinks-requires
 hold-hoplinks-requires c κs =
     let m = c .before .before .before .before .before in
     let e = m .before .before .before in
     let p = e .before .before .before .pre in
-    let meets = meets-at _ _ _ (m .meeting .given .1) (m .before .before .deepest .ensures) in
-    ((p .0 .beside, p .0 .depths-filled, meets .on-map), p .1 .1)
+    let met = told-at _ _ _ (m .met .given .1) (m .before .before .meet .ensures) in
+    ((p .0 .beside, p .0 .depths-filled, met .meets .on-map), p .1 .1)
+
+number-of-requires : tie.Need-number-of-requires
+number-of-requires c κs =
+    let m = c .before .before .before .before .before .before .before in
+    let e = m .before .before .before in
+    let p = e .before .before .before .pre in
+    let met = told-at _ _ _ (m .met .given .1) (m .before .before .meet .ensures) in
+    omega (arith, met .meets .on-map, p .0 .beside .labels .parents .few-junctions)
 
 search-levels-requires : tie.Need-search-levels-requires
 search-levels-requires c κs =
-    let not-y = c .before .before .before .before in
-    let m = not-y .before .before .before in
-    let e = m .before .before .before in
-    let p = e .before .before .before .pre in
-    let meets = meets-at _ _ _ (m .meeting .given .1) (m .before .before .deepest .ensures) in (
-      (p .0 .beside .labels, p .0 .depths-filled, p .0 .starts-filled),
-      meets-above meets (p .0 .beside .labels .parents) (omega (arith, p .1 .0 .0, p .0 .beside .one-map)) (omega (arith, p .1 .0 .1, p .0 .beside .one-map)) (not-y .before .if2 .left) (not-y .if3 .left),
-    )
-
-returns-5 : tie.Need-returns-5
-returns-5 c =
     let not-y = c .before .before .before .before .before in
     let m = not-y .before .before .before in
     let e = m .before .before .before in
     let p = e .before .before .before .pre in
-    let meets = meets-at _ _ _ (m .meeting .given .1) (m .before .before .deepest .ensures) in
-    let hops = c .before .before .hold-hoplinks .ensures in
-    (reach-across (p .0) meets (not-y .before .if2 .left) (not-y .if3 .left) (hops .0) (c .search-levels .ensures), hops .1)
+    let formed = p .0 .beside .labels in
+    let met = told-at _ _ _ (m .met .given .1) (m .before .before .meet .ensures) in
+    let branches = meets-above (met .meets) (formed .parents) (on-labels (p .0) (p .1 .0 .0)) (on-labels (p .0) (p .1 .0 .1)) (not-y .before .if2 .left) (not-y .if3 .left) in
+    let depth-is = c .number-of .ensures ∙ p .0 .depths-filled .depth _ (met .meets .on-map) in
+    ((formed .few-bytes, depth-mark formed met branches depth-is), (near-lists formed met branches depth-is, far-lists formed met branches depth-is))
+
+returns-5 : tie.Need-returns-5
+returns-5 c =
+    let not-y = c .before .before .before .before .before .before in
+    let m = not-y .before .before .before in
+    let e = m .before .before .before in
+    let p = e .before .before .before .pre in
+    let met = told-at _ _ _ (m .met .given .1) (m .before .before .meet .ensures) in
+    let branches = meets-above (met .meets) (p .0 .beside .labels .parents) (on-labels (p .0) (p .1 .0 .0)) (on-labels (p .0) (p .1 .0 .1)) (not-y .before .if2 .left) (not-y .if3 .left) in
+    let depth-is = c .before .number-of .ensures ∙ p .0 .depths-filled .depth _ (met .meets .on-map) in
+    let hops = c .before .before .before .hold-hoplinks .ensures in
+    (reach-across (p .0) met branches depth-is (not-y .before .if2 .left) (not-y .if3 .left) (hops .0) (c .search-levels .ensures), hops .1)
 
 pub reaches-spec : {M : Type 1} → statement M
 reaches-spec =
     tie.close
     (tie.spec
     returns
-    deepest-requires
-    enum-known-meeting
+    meet-requires
+    enum-known-met
     enum-told
     returns-2
-    find-list-requires
     list-reaches-requires
     returns-3
-    find-list-requires-2
     list-reaches-requires-2
     returns-4
     hold-hoplinks-requires
+    number-of-requires
     search-levels-requires
     returns-5)
