@@ -1,10 +1,10 @@
-//! Times of the proved functions beside plain Rust with the same algorithms, pair by pair in one run.
+//! Times of the proved functions beside plain Rust and hand-written C++, line by line in one run.
 //!
 //! - [`inputs`]: files and lists, the same in every run
-//! - [`plain`]: the algorithms in plain, safe Rust
+//! - [`plain`]: the algorithms in plain, safe Rust; [`peer`]: the check and the queries in C++, a crate of its own
 //! - [`proved`]: the proved functions, over their C interface
 //! - [`queries`]: batch, route and list after the check; [`growth`]: how times grow with the files
-//! - [`timing`], [`clock`]: how a pair is timed, and its line of the table
+//! - [`timing`], [`clock`]: how the sides are timed, and their line of the table
 
 mod clock;
 mod growth;
@@ -21,8 +21,8 @@ use std::thread;
 use generate::random::Random;
 
 use inputs::files::{self, Files};
-use inputs::lists::{self, Covered, Joined};
-use timing::{Row, pair};
+use inputs::lists::{self, Joined};
+use timing::Row;
 
 /// Entries of all lists of one size together: too many for a branch predictor to learn.
 const ENTRIES: usize = 1 << 18;
@@ -33,16 +33,14 @@ fn main() {
     for files in files::all() {
         form(&files);
     }
-    for files in inputs::right::all() {
-        check(&files);
+    let right = inputs::right::all();
+    for askable in &right {
+        check(&askable.files);
     }
-    for askable in inputs::right::askable() {
-        queries::rows(&askable);
+    for askable in &right {
+        queries::rows(askable);
     }
     let mut random = Random::new(0, 1);
-    for size in [10, 100, 1_000, 4_095] {
-        cover(size, &lists::covered(&mut random, size, ENTRIES / size));
-    }
     for size in [10, 100, 1_000, 4_095] {
         limited_join(size, &lists::joined(&mut random, size, ENTRIES / size));
     }
@@ -75,10 +73,11 @@ fn machine() {
 fn check(files: &Files) {
     let (net, labels) = (&files.net, &files.labels);
     let input = format!("{}, {} bytes", files.note, labels.len());
-    assert_eq!(proved::check(net, labels), 0, "{input}");
-    assert_eq!(plain::exact::check(net, labels), 0, "{input}");
-    let row = pair(
+    let numbers = [plain::exact::check, peer::check, proved::check];
+    assert_eq!(numbers.map(|check| check(net, labels)), [0; 3], "{input}");
+    let row = Row::of_three(
         || plain::exact::check(black_box(net), black_box(labels)),
+        || peer::check(black_box(net), black_box(labels)),
         || proved::check(black_box(net), black_box(labels)),
     );
     row.print("whole check", &input);
@@ -87,59 +86,30 @@ fn check(files: &Files) {
 fn form(files: &Files) {
     let (net, labels) = (&files.net, &files.labels);
     let input = format!("{}, {} bytes", files.note, labels.len());
-    let numbers = [plain::form::by_index, plain::form::by_chunks, proved::form];
-    assert_eq!(numbers.map(|form| form(net, labels)), [0; 3], "{input}");
-    let row = pair(
+    let numbers = [
+        plain::form::by_index,
+        plain::form::by_chunks,
+        peer::form,
+        proved::form,
+    ];
+    assert_eq!(numbers.map(|form| form(net, labels)), [0; 4], "{input}");
+    let row = Row::of_three(
         || plain::form::by_index(black_box(net), black_box(labels)),
+        || peer::form(black_box(net), black_box(labels)),
         || proved::form(black_box(net), black_box(labels)),
     );
     row.print("form check, plain Rust by index", &input);
-    let row = pair(
+    let row = Row::of_three(
         || plain::form::by_chunks(black_box(net), black_box(labels)),
+        || peer::form(black_box(net), black_box(labels)),
         || proved::form(black_box(net), black_box(labels)),
     );
     row.print("form check, plain Rust by chunks", &input);
-    let row = pair(
+    let row = Row::of_two(
         || plain::form::sum_of_bytes(black_box(net), black_box(labels)),
         || proved::form(black_box(net), black_box(labels)),
     );
     row.print("form check, against a sum of all bytes", &input);
-}
-
-fn cover(size: usize, inputs: &[Covered]) {
-    let mut marks = vec![0; size];
-    let mut marks_too = vec![0; size];
-    for input in inputs {
-        marks.fill(0);
-        marks_too.fill(0);
-        let covered = plain::lists::cover(&input.list, input.arc, &input.rest, &mut marks);
-        assert!(covered, "the inputs are made so that no run ends early");
-        assert!(proved::cover(
-            &input.list,
-            input.arc,
-            &input.rest,
-            &mut marks_too
-        ));
-        assert_eq!(marks, marks_too);
-    }
-    let row = pair(
-        || {
-            let yes = |input: &&Covered| {
-                plain::lists::cover(&input.list, input.arc, &input.rest, &mut marks)
-            };
-            inputs.iter().filter(yes).count()
-        },
-        || {
-            let yes = |input: &&Covered| {
-                proved::cover(&input.list, input.arc, &input.rest, &mut marks_too)
-            };
-            inputs.iter().filter(yes).count()
-        },
-    );
-    row.print(
-        "covering",
-        &format!("{} pairs of {size} entries", inputs.len()),
-    );
 }
 
 fn limited_join(size: usize, inputs: &[Joined]) {
@@ -149,7 +119,7 @@ fn limited_join(size: usize, inputs: &[Joined]) {
             proved::limited_join(&input.first, &input.second, input.limit)
         );
     }
-    let row = pair(
+    let row = Row::of_two(
         || {
             let answers = inputs
                 .iter()
@@ -181,7 +151,7 @@ fn join(note: &str, inputs: &[Joined]) {
         assert_eq!((&times, &energies), (&times_too, &energies_too));
         entries += count.count;
     }
-    let row = pair(
+    let row = Row::of_two(
         || {
             let answers = inputs.iter().map(|input| {
                 plain::lists::join(&input.first, &input.second, &mut times, &mut energies)

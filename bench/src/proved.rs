@@ -2,7 +2,7 @@
 //!
 //! Every slice is passed as its first element and its length in elements.
 
-use crate::inputs::lists::{Arc, List};
+use crate::inputs::lists::List;
 
 /// The best sum, or zeros beside the number of a refusal.
 #[repr(C)]
@@ -52,21 +52,6 @@ unsafe extern "C" {
         labels: *const u8,
         labels_length: usize,
     ) -> u32;
-
-    fn measured_cover(
-        times: *const u32,
-        times_length: usize,
-        energies: *const u32,
-        energies_length: usize,
-        arc_time: u32,
-        arc_energy: u32,
-        rest_times: *const u32,
-        rest_times_length: usize,
-        rest_energies: *const u32,
-        rest_energies_length: usize,
-        marks: *mut u8,
-        marks_length: usize,
-    ) -> bool;
 
     fn measured_join(
         times: *const u32,
@@ -194,29 +179,6 @@ pub fn check(net: &[u8], labels: &[u8]) -> u32 {
 pub fn form(net: &[u8], labels: &[u8]) -> u32 {
     // SAFETY: both are slices, and the function requires nothing else.
     unsafe { measured_form(net.as_ptr(), net.len(), labels.as_ptr(), labels.len()) }
-}
-
-/// Covering.
-pub fn cover(list: &List, arc: Arc, rest: &List, marks: &mut [u8]) -> bool {
-    assert!(list.times().len() <= marks.len());
-    assert!(arc.time <= 65_535 && arc.energy <= 65_535);
-    // SAFETY: the rest that the function requires is what every `List` keeps to.
-    unsafe {
-        measured_cover(
-            list.times().as_ptr(),
-            list.times().len(),
-            list.energies().as_ptr(),
-            list.energies().len(),
-            arc.time,
-            arc.energy,
-            rest.times().as_ptr(),
-            rest.times().len(),
-            rest.energies().as_ptr(),
-            rest.energies().len(),
-            marks.as_mut_ptr(),
-            marks.len(),
-        )
-    }
 }
 
 /// Join.

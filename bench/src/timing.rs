@@ -1,60 +1,95 @@
-//! How a pair is timed, and its line of the table.
+//! How the sides of a line are timed, and its line of the table.
 
 use std::hint::black_box;
 use std::time::Duration;
 
 use crate::clock::thread_time;
 
-/// Rounds go on until both limits are passed.
+/// Rounds go on until both limits are passed, the second by all sides together.
 const LEAST_ROUNDS: usize = 9;
-const LEAST_TIME: Duration = Duration::from_millis(500);
+const LEAST_TIME_A_SIDE: Duration = Duration::from_millis(250);
 
 /// A run is repeated up to this time, beside which reading the clock takes none.
 const LEAST_RUN: Duration = Duration::from_micros(200);
 
-/// The time of each side.
+/// The time of each side; some lines have none in C++.
 pub struct Row {
     plain: Duration,
+    peer: Option<Duration>,
     proved: Duration,
 }
 
 impl Row {
-    pub const HEAD: &str =
-        "| what | input | plain Rust | proved | ratio |\n|---|---|---:|---:|---:|";
+    pub const HEAD: &str = "\
+| what | input | plain Rust | C++ | proved | proved to Rust | proved to C++ |
+|---|---|---:|---:|---:|---:|---:|";
+
+    /// Three sides.
+    pub fn of_three<A, B, C>(
+        mut plain: impl FnMut() -> A,
+        mut peer: impl FnMut() -> B,
+        mut proved: impl FnMut() -> C,
+    ) -> Row {
+        let [plain, peer, proved] = in_turn([
+            &mut || drop(black_box(plain())),
+            &mut || drop(black_box(peer())),
+            &mut || drop(black_box(proved())),
+        ]);
+        Row {
+            plain,
+            peer: Some(peer),
+            proved,
+        }
+    }
+
+    /// Two sides, without C++.
+    pub fn of_two<A, B>(mut plain: impl FnMut() -> A, mut proved: impl FnMut() -> B) -> Row {
+        let [plain, proved] = in_turn([&mut || drop(black_box(plain())), &mut || {
+            drop(black_box(proved()))
+        }]);
+        Row {
+            plain,
+            peer: None,
+            proved,
+        }
+    }
 
     pub fn print(&self, what: &str, input: &str) {
-        let ratio = self.proved.as_secs_f64() / self.plain.as_secs_f64();
-        let [plain, proved] = [self.plain, self.proved].map(|time| time.as_secs_f64() * 1e6);
-        println!("| {what} | {input} | {plain:.1} µs | {proved:.1} µs | {ratio:.2} |");
-    }
-}
-
-/// Runs both sides in turn, so that what other loads do to caches falls on both.
-pub fn pair<A, B>(mut plain: impl FnMut() -> A, mut proved: impl FnMut() -> B) -> Row {
-    let once = timed(1, &mut plain).max(Duration::from_nanos(1));
-    let repeats = 1 + LEAST_RUN.div_duration_f64(once) as u32;
-    let (mut plain_times, mut proved_times) = (Vec::new(), Vec::new());
-    let start = thread_time();
-    while plain_times.len() < LEAST_ROUNDS || thread_time() - start < LEAST_TIME {
-        plain_times.push(timed(repeats, &mut plain));
-        proved_times.push(timed(repeats, &mut proved));
-    }
-    Row {
-        plain: low(plain_times),
-        proved: low(proved_times),
+        let time = |time: Duration| format!("{:.1} µs", time.as_secs_f64() * 1e6);
+        let ratio = |beside: Duration| format!("{:.2}", self.proved.div_duration_f64(beside));
+        let or_none = |shown: Option<String>| shown.unwrap_or_else(|| "–".to_string());
+        println!(
+            "| {what} | {input} | {} | {} | {} | {} | {} |",
+            time(self.plain),
+            or_none(self.peer.map(time)),
+            time(self.proved),
+            ratio(self.plain),
+            or_none(self.peer.map(ratio)),
+        );
     }
 }
 
 /// One side alone.
 pub fn single<A>(mut run: impl FnMut() -> A) -> Duration {
-    let once = timed(1, &mut run).max(Duration::from_nanos(1));
-    let repeats = 1 + LEAST_RUN.div_duration_f64(once) as u32;
-    let mut times = Vec::new();
+    let [time] = in_turn([&mut || drop(black_box(run()))]);
+    time
+}
+
+/// Runs all sides in turn, so that what other loads do to caches falls on each.
+fn in_turn<const SIDES: usize>(mut sides: [&mut dyn FnMut(); SIDES]) -> [Duration; SIDES] {
+    let repeats = sides.each_mut().map(|side| {
+        let once = timed(1, side).max(Duration::from_nanos(1));
+        1 + LEAST_RUN.div_duration_f64(once) as u32
+    });
+    let mut times = [(); SIDES].map(|()| Vec::new());
     let start = thread_time();
-    while times.len() < LEAST_ROUNDS || thread_time() - start < LEAST_TIME / 2 {
-        times.push(timed(repeats, &mut run));
+    let least_time = LEAST_TIME_A_SIDE * SIDES as u32;
+    while times[0].len() < LEAST_ROUNDS || thread_time() - start < least_time {
+        for (side, run) in sides.iter_mut().enumerate() {
+            times[side].push(timed(repeats[side], run));
+        }
     }
-    low(times)
+    times.map(low)
 }
 
 /// The lower quartile, and not the least: on a virtual machine single times of this clock were seen far
@@ -64,10 +99,10 @@ fn low(mut times: Vec<Duration>) -> Duration {
     times[times.len() / 4]
 }
 
-fn timed<A>(repeats: u32, run: &mut impl FnMut() -> A) -> Duration {
+fn timed(repeats: u32, run: &mut dyn FnMut()) -> Duration {
     let start = thread_time();
     for _ in 0..repeats {
-        black_box(run());
+        run();
     }
     (thread_time() - start) / repeats
 }

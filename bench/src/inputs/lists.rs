@@ -2,28 +2,13 @@
 
 use generate::random::Random;
 
-/// What the proved functions require of a number of a list.
-const MOST_NUMBER: u32 = 2_147_483_647;
+/// The most that a join takes for a number of a list.
+const MOST_NUMBER: u32 = 1_073_741_823;
 
-/// A list in two slices; made only by [`List::new`], so that each keeps to what the proved functions
-/// require.
+/// A list in two slices; made only by [`List::new`], so that no join refuses it.
 pub struct List {
     times: Vec<u32>,
     energies: Vec<u32>,
-}
-
-/// The time and the energy of an arc, each at most 65,535.
-#[derive(Clone, Copy)]
-pub struct Arc {
-    pub time: u32,
-    pub energy: u32,
-}
-
-/// A list that covers every sum of the arc and an entry of the rest.
-pub struct Covered {
-    pub list: List,
-    pub arc: Arc,
-    pub rest: List,
 }
 
 /// Two lists to join, and a limit within their sums.
@@ -99,99 +84,5 @@ pub fn few_unbeaten(random: &mut Random, size: usize) -> Joined {
         first: list(),
         second: list(),
         limit: size as u32 * energy_step,
-    }
-}
-
-/// Lists of one size, and for each an arc and a rest that it covers.
-pub fn covered(random: &mut Random, size: usize, count: usize) -> Vec<Covered> {
-    (0..count).map(|_| covering(random, size)).collect()
-}
-
-/// How a list covers the next sums.
-#[derive(Clone, Copy)]
-enum Way {
-    /// An entry equals a sum.
-    Equal,
-    /// An entry beats two sums.
-    BeatsTwo,
-    /// Two entries, the second of which beats a sum.
-    TwoBeat,
-}
-
-/// A list and the sums that it covers, both by rising energy; a drop is what the time falls by.
-#[derive(Default)]
-struct Growing {
-    list: Vec<Point>,
-    sums: Vec<Point>,
-}
-
-#[derive(Clone, Copy, Default)]
-struct Point {
-    drop: u32,
-    energy: u32,
-}
-
-impl Growing {
-    fn grow(&mut self, way: Way, [first, second, third]: [Point; 3]) {
-        let point = |drop: Point, energy: Point| Point {
-            drop: drop.drop,
-            energy: energy.energy,
-        };
-        match way {
-            Way::Equal => {
-                self.list.push(first);
-                self.sums.push(first);
-            }
-            Way::BeatsTwo => {
-                self.list.push(point(third, first));
-                self.sums.push(point(first, second));
-                self.sums.push(point(second, third));
-            }
-            Way::TwoBeat => {
-                self.list.push(point(second, first));
-                self.list.push(point(third, second));
-                self.sums.push(point(first, third));
-            }
-        }
-    }
-}
-
-fn covering(random: &mut Random, size: usize) -> Covered {
-    let mut growing = Growing::default();
-    // Above the arc's energy, so that the rest's energies are above 0.
-    let mut last = Point {
-        drop: 0,
-        energy: 65_535,
-    };
-    while growing.list.len() < size {
-        let mut ways = [Way::BeatsTwo, Way::TwoBeat];
-        random.shuffle(&mut ways);
-        let equal = random.one_in(2) || size - growing.list.len() < 3;
-        let ways: &[Way] = if equal { &[Way::Equal] } else { &ways };
-        for &way in ways {
-            let points = [(); 3].map(|()| {
-                last.drop += random.between(1, 1_000);
-                last.energy += random.between(1, 1_000);
-                last
-            });
-            growing.grow(way, points);
-        }
-    }
-    let arc = Arc {
-        time: random.between(1, 65_535),
-        energy: random.between(1, 65_535),
-    };
-    // The time that drops are taken from: the rest's times are above 0, too.
-    let top = last.drop + 65_536;
-    let list_of = |points: &[Point], less: Arc| {
-        let times = points.iter().map(|point| top - point.drop - less.time);
-        let energies = points.iter().map(|point| point.energy - less.energy);
-        List::new(times.collect(), energies.collect())
-    };
-    let none = Arc { time: 0, energy: 0 };
-    Covered {
-        list: list_of(&growing.list, none),
-        rest: list_of(&growing.sums, arc),
-        arc,
     }
 }

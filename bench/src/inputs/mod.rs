@@ -4,3 +4,4 @@ pub mod files;
 pub mod lists;
 pub mod queries;
 pub mod right;
+pub mod trucks;

@@ -5,28 +5,14 @@ use generate::forests::by_elimination;
 use generate::large;
 use generate::random::Random;
 use generate::right::Right;
+use model::forest::Parents;
 use model::network::{Network, Road};
 use model::units::Pair;
 
 use super::files::Files;
+use super::trucks;
 
 const IDENTITY: u32 = 7;
-
-/// One pair of each kind.
-pub fn all() -> Vec<Files> {
-    let mut random = Random::new(0, 2);
-    vec![
-        files("grid, n = 100", grid(&mut random, 10, 40), order(10)),
-        files("grid, n = 400", grid(&mut random, 20, 12), order(20)),
-        files("full grid, n = 1,024", grid(&mut random, 32, 5), order(32)),
-        files(
-            "chain, n = 900",
-            chain(&mut random, 900),
-            (0..900).collect(),
-        ),
-        files("long lists, n = 31", diamonds(10), (0..31).collect()),
-    ]
-}
 
 /// Files and, where only two of their junctions are worth asking about, those.
 pub struct Askable {
@@ -34,9 +20,8 @@ pub struct Askable {
     pub ends: Option<[u32; 2]>,
 }
 
-/// The same files, asked about all over; then the longest lists, one stored and one joined where two branches meet.
-pub fn askable() -> Vec<Askable> {
-    let all = all().into_iter().map(|files| Askable { files, ends: None });
+/// One pair of each kind, asked about all over; then the longest lists, one stored and one joined where two branches meet.
+pub fn all() -> Vec<Askable> {
     let longest = [
         (
             "a stored list of 4,095 entries, n = 37",
@@ -55,26 +40,50 @@ pub fn askable() -> Vec<Askable> {
         },
         ends: set.ends,
     });
-    all.chain(longest).collect()
+    let everywhere = plain().into_iter().chain(trucks::all());
+    let everywhere = everywhere.map(|files| Askable { files, ends: None });
+    everywhere.chain(longest).collect()
+}
+
+/// Grids, a chain and diamonds with junctions numbered in order.
+fn plain() -> Vec<Files> {
+    let mut random = Random::new(0, 2);
+    vec![
+        eliminated("grid, n = 100", grid(&mut random, 10, 40), order(10)),
+        eliminated("grid, n = 400", grid(&mut random, 20, 12), order(20)),
+        eliminated("full grid, n = 1,024", grid(&mut random, 32, 5), order(32)),
+        eliminated(
+            "chain, n = 900",
+            chain(&mut random, 900),
+            (0..900).collect(),
+        ),
+        eliminated("long lists, n = 31", diamonds(10), (0..31).collect()),
+    ]
 }
 
 /// Grids of one kind of roads and chains, each kind from small to large.
 pub fn growing() -> Vec<Files> {
     let mut random = Random::new(0, 4);
     let grids =
-        [8, 11, 16, 23, 32].map(|side| files("grid", grid(&mut random, side, 5), order(side)));
-    let chains = [225, 450, 900].map(|n| files("chain", chain(&mut random, n), (0..n).collect()));
+        [8, 11, 16, 23, 32].map(|side| eliminated("grid", grid(&mut random, side, 5), order(side)));
+    let chains =
+        [225, 450, 900].map(|n| eliminated("chain", chain(&mut random, n), (0..n).collect()));
     grids.into_iter().chain(chains).collect()
 }
 
-fn files(note: &'static str, network: Network, order: Vec<usize>) -> Files {
+/// With the forest of an elimination in the given order.
+fn eliminated(note: &'static str, network: Network, order: Vec<usize>) -> Files {
     let parents = by_elimination(&network, order);
+    files(note, network, parents)
+}
+
+pub fn files(note: &'static str, network: Network, parents: Parents) -> Files {
     let net = network_bytes(&network);
     let labels = Right::new(network, parents).file.bytes();
     Files { note, net, labels }
 }
 
-fn network(junctions: usize, mut roads: Vec<Road>) -> Network {
+pub fn network(junctions: usize, mut roads: Vec<Road>) -> Network {
     roads.sort_by_key(|road| (road.lower, road.higher));
     Network {
         junctions,
@@ -83,26 +92,30 @@ fn network(junctions: usize, mut roads: Vec<Road>) -> Network {
     }
 }
 
-fn road(one: usize, other: usize, time: u32, energy: u32) -> Road {
+pub fn road(one: usize, other: usize, pair: Pair) -> Road {
     Road {
         lower: one.min(other),
         higher: one.max(other),
-        pair: Pair::new(time, energy),
+        pair,
     }
 }
 
+/// A time and an energy, each on its own.
+fn figures(random: &mut Random, most: u32) -> Pair {
+    Pair::new(random.between(1, most), random.between(1, most))
+}
+
 /// A square of junctions, each joined to its right and lower neighbours.
-fn grid(random: &mut Random, side: usize, most: usize) -> Network {
+fn grid(random: &mut Random, side: usize, most: u32) -> Network {
     let mut roads = Vec::new();
     for row in 0..side {
         for column in 0..side {
             let here = row * side + column;
-            let mut figure = || 1 + random.below(most) as u32;
             if column + 1 < side {
-                roads.push(road(here, here + 1, figure(), figure()));
+                roads.push(road(here, here + 1, figures(random, most)));
             }
             if row + 1 < side {
-                roads.push(road(here, here + side, figure(), figure()));
+                roads.push(road(here, here + side, figures(random, most)));
             }
         }
     }
@@ -138,8 +151,7 @@ fn dissect(
 }
 
 fn chain(random: &mut Random, junctions: usize) -> Network {
-    let mut figure = || 1 + random.below(1_000) as u32;
-    let roads = (1..junctions).map(|junction| road(junction - 1, junction, figure(), figure()));
+    let roads = (1..junctions).map(|junction| road(junction - 1, junction, figures(random, 1_000)));
     network(junctions, roads.collect())
 }
 
@@ -149,10 +161,10 @@ fn diamonds(count: usize) -> Network {
     for stage in 0..count {
         let (from, fast, frugal, to) = (3 * stage, 3 * stage + 1, 3 * stage + 2, 3 * stage + 3);
         let cost = 1 << stage;
-        roads.push(road(from, fast, 1, 1 + cost));
-        roads.push(road(fast, to, 1, 1));
-        roads.push(road(from, frugal, 1 + cost, 1));
-        roads.push(road(frugal, to, 1, 1));
+        roads.push(road(from, fast, Pair::new(1, 1 + cost)));
+        roads.push(road(fast, to, Pair::new(1, 1)));
+        roads.push(road(from, frugal, Pair::new(1 + cost, 1)));
+        roads.push(road(frugal, to, Pair::new(1, 1)));
     }
     network(3 * count + 1, roads)
 }

@@ -1,8 +1,7 @@
 //! The whole check: the form, then the sweep of crates/exact over the levels of the forest.
 
 use super::form;
-use super::lists::cover_slices;
-use crate::inputs::lists::Arc;
+use super::lists::{Arc, cover};
 
 const NO_PARENT: usize = 65_535;
 
@@ -196,7 +195,7 @@ impl<'a> Sweep<'a> {
                 energy: u16_at(self.net, at + 6) as u32,
             };
             let left = self.rest.count;
-            if !cover_slices(
+            if !cover(
                 &self.own.times[..count],
                 &self.own.energies[..count],
                 arc,

@@ -1,6 +1,6 @@
 //! Covering and the two joins, with the walks of crates/lists and crates/joins.
 
-use crate::inputs::lists::{Arc, List};
+use crate::inputs::lists::List;
 use crate::proved::{Best, Count};
 
 const MOST_ENTRIES: usize = 4_095;
@@ -9,22 +9,17 @@ const MOST_NUMBER: u32 = 1_073_741_823;
 /// More than the energy of any sum.
 const ABOVE_ALL: u32 = 2_147_483_647;
 
-/// Whether each sum of the arc and an entry of the second list is covered by the first; entries that a
-/// sum equals are marked.
-#[inline(never)]
-pub fn cover(list: &List, arc: Arc, rest: &List, marks: &mut [u8]) -> bool {
-    cover_slices(
-        list.times(),
-        list.energies(),
-        arc,
-        rest.times(),
-        rest.energies(),
-        marks,
-    )
+/// The time and the energy of an arc.
+#[derive(Clone, Copy)]
+pub struct Arc {
+    pub time: u32,
+    pub energy: u32,
 }
 
+/// Whether each sum of the arc and an entry of the second list is covered by the first; entries that a
+/// sum equals are marked.
 #[inline]
-pub fn cover_slices(
+pub fn cover(
     times: &[u32],
     energies: &[u32],
     arc: Arc,

@@ -58,7 +58,7 @@ pub fn by_elimination(network: &Network, order: Vec<usize>) -> Parents {
 }
 
 /// An elimination order that keeps forests shallow.
-fn least_degree_first(network: &Network) -> Vec<usize> {
+pub fn least_degree_first(network: &Network) -> Vec<usize> {
     let mut neighbours = neighbours(network);
     let mut left: BTreeSet<usize> = (0..network.junctions).collect();
     let mut order = Vec::new();
@@ -106,7 +106,7 @@ fn depth_first(network: &Network, order: &[usize]) -> Parents {
 }
 
 /// Each junction below the one before it: any roads will do.
-fn in_one_line(order: &[usize]) -> Parents {
+pub fn in_one_line(order: &[usize]) -> Parents {
     let mut parents = vec![None; order.len()];
     for two in order.windows(2) {
         parents[two[1]] = Some(two[0]);
