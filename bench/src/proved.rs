@@ -35,8 +35,6 @@ pub struct Count {
 pub type Junctions = [u32; 1_024];
 /// A number for both ends of each possible road.
 type RoadEnds = [u32; 8_192];
-/// A number for each entry that a stored list can have.
-type Entries = [u32; 4_096];
 type Marks = [u8; 1_024];
 
 unsafe extern "C" {
@@ -89,10 +87,6 @@ unsafe extern "C" {
         starts: *mut Junctions,
         heads: *mut Junctions,
         nexts: *mut RoadEnds,
-        near_times: *mut Entries,
-        near_energies: *mut Entries,
-        far_times: *mut Entries,
-        far_energies: *mut Entries,
     ) -> u32;
 
     fn measured_answers(
@@ -107,11 +101,6 @@ unsafe extern "C" {
         count: usize,
         answers: *mut u32,
         answers_length: usize,
-        marks: *mut Marks,
-        near_times: *mut Entries,
-        near_energies: *mut Entries,
-        far_times: *mut Entries,
-        far_energies: *mut Entries,
     );
 
     fn measured_route(
@@ -140,11 +129,6 @@ unsafe extern "C" {
         starts: *const Junctions,
         s: usize,
         t: usize,
-        marks: *mut Marks,
-        near_times: *mut Entries,
-        near_energies: *mut Entries,
-        far_times: *mut Entries,
-        far_energies: *mut Entries,
     ) -> u32;
 
     fn measured_list_fill(
@@ -161,11 +145,6 @@ unsafe extern "C" {
         times_length: usize,
         energies: *mut u32,
         energies_length: usize,
-        marks: *mut Marks,
-        near_times: *mut Entries,
-        near_energies: *mut Entries,
-        far_times: *mut Entries,
-        far_energies: *mut Entries,
     );
 }
 
@@ -221,7 +200,7 @@ pub fn limited_join(first: &List, second: &List, limit: u32) -> Best {
     }
 }
 
-/// A set that the check has accepted, with the tables it filled and scratch for queries.
+/// A set that the check has accepted, with the tables it filled and marks for routes.
 pub struct Accepted<'a> {
     net: &'a [u8],
     labels: &'a [u8],
@@ -230,16 +209,11 @@ pub struct Accepted<'a> {
     heads: Box<Junctions>,
     nexts: Box<RoadEnds>,
     marks: Box<Marks>,
-    near_times: Box<Entries>,
-    near_energies: Box<Entries>,
-    far_times: Box<Entries>,
-    far_energies: Box<Entries>,
 }
 
 impl<'a> Accepted<'a> {
     /// The set if the check gives 0.
     pub fn new(net: &'a [u8], labels: &'a [u8]) -> Option<Accepted<'a>> {
-        let entries = || Box::new([0; 4_096]);
         let junctions = || Box::new([0; 1_024]);
         let mut set = Accepted {
             net,
@@ -249,10 +223,6 @@ impl<'a> Accepted<'a> {
             heads: junctions(),
             nexts: Box::new([0; 8_192]),
             marks: Box::new([0; 1_024]),
-            near_times: entries(),
-            near_energies: entries(),
-            far_times: entries(),
-            far_energies: entries(),
         };
         // SAFETY: slices and arrays of their own, of the sizes that the function asks for.
         let number = unsafe {
@@ -265,10 +235,6 @@ impl<'a> Accepted<'a> {
                 &mut *set.starts,
                 &mut *set.heads,
                 &mut *set.nexts,
-                &mut *set.near_times,
-                &mut *set.near_energies,
-                &mut *set.far_times,
-                &mut *set.far_energies,
             )
         };
         (number == 0).then_some(set)
@@ -279,7 +245,7 @@ impl<'a> Accepted<'a> {
     }
 
     /// A batch after the check.
-    pub fn answer_all(&mut self, queries: &[u32], answers: &mut [u32]) {
+    pub fn answer_all(&self, queries: &[u32], answers: &mut [u32]) {
         assert!(queries.len() == answers.len() && queries.len().is_multiple_of(3));
         // SAFETY: the tables are those of an accepted set, and the lengths were asked for above.
         unsafe {
@@ -295,11 +261,6 @@ impl<'a> Accepted<'a> {
                 queries.len() / 3,
                 answers.as_mut_ptr(),
                 answers.len(),
-                &mut *self.marks,
-                &mut *self.near_times,
-                &mut *self.near_energies,
-                &mut *self.far_times,
-                &mut *self.far_energies,
             );
         }
     }
@@ -335,7 +296,7 @@ impl<'a> Accepted<'a> {
     }
 
     /// The whole trade-off list: counted, then filled.
-    pub fn list(&mut self, s: usize, t: usize, times: &mut [u32], energies: &mut [u32]) -> usize {
+    pub fn list(&self, s: usize, t: usize, times: &mut [u32], energies: &mut [u32]) -> usize {
         assert!(self.is_junction(s) && self.is_junction(t));
         // SAFETY: the tables are those of an accepted set.
         let count = unsafe {
@@ -348,11 +309,6 @@ impl<'a> Accepted<'a> {
                 &*self.starts,
                 s,
                 t,
-                &mut *self.marks,
-                &mut *self.near_times,
-                &mut *self.near_energies,
-                &mut *self.far_times,
-                &mut *self.far_energies,
             )
         };
         assert!(count as usize <= times.len().min(energies.len()));
@@ -372,11 +328,6 @@ impl<'a> Accepted<'a> {
                 times.len(),
                 energies.as_mut_ptr(),
                 energies.len(),
-                &mut *self.marks,
-                &mut *self.near_times,
-                &mut *self.near_energies,
-                &mut *self.far_times,
-                &mut *self.far_energies,
             );
         }
         count as usize
