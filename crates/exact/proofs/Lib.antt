@@ -1,4 +1,5 @@
 -- Why the sweep decides number 18.
-pub mod Levels
-pub mod Rows
+pub mod Noting
+pub mod Moving
+pub mod Sweeping
 pub mod Verdicts

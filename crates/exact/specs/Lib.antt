@@ -1,4 +1,2 @@
--- Number 18: is every stored list the trade-off list of its two junctions?
+-- The sweep over the labels, which decides number 18.
 pub mod Sweep
-pub mod Moving
-pub mod Testing

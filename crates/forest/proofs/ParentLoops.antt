@@ -102,10 +102,10 @@ module _ (s depths : List ℕ) (u d : ℕ) (few : junctionsOf s ≤ 1024) (on-ma
       record {
         places = length-set depths u d ∙ known .places;
         right = λ w l h.
-        ⊎-elim
-        (λ same. same .1 ∙ is ∙ ap (depthOf s) (sym (same .0)))
-        (λ old. old ∙ known .right w l (omega (arith, old)))
-        (stored-or-old depths u d w (omega (arith, known .places)));
+            ⊎-elim
+            (λ same. same .1 ∙ is ∙ ap (depthOf s) (sym (same .0)))
+            (λ old. old ∙ known .right w l (omega (arith, old)))
+            (stored-or-old depths u d w (omega (arith, known .places)));
       }
 
   -- and what was known still is

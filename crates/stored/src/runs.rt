@@ -76,7 +76,10 @@ fn first_entry(labels: &[u8], at: usize) -> u32
 {
     let time = time_at(labels, at, 0);
     let energy = energy_at(labels, at, 0);
-    both(time_fits(Seconds(MOST_FIGURE + 1), time), energy_fits(Energy(LEAST_ENERGY), energy))
+    both(
+        time_fits(Seconds(MOST_FIGURE + 1), time),
+        energy_fits(Energy(LEAST_ENERGY), energy),
+    )
 }
 
 // 1 if the second does.
@@ -86,7 +89,10 @@ fn second_entry(labels: &[u8], at: usize) -> u32
 {
     let time = time_at(labels, at, 1);
     let energy = energy_at(labels, at, 1);
-    both(time_fits(time_at(labels, at, 0), time), energy_follows(energy_at(labels, at, 0), energy))
+    both(
+        time_fits(time_at(labels, at, 0), time),
+        energy_follows(energy_at(labels, at, 0), energy),
+    )
 }
 
 // How many of the first two places for entries hold some that keep the rules, up to the first that does not.

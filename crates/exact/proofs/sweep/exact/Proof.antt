@@ -1,23 +1,22 @@
--- Where every junction waits the sweep begins, over slices with room for any list.
+-- The junctions are numbered, and the sweep begins where no mark is set.
 use mathlib.Core.Path.{refl}
+use lib.ListN.{getD-replicate}
+use borrow.Author.Needs.{needs}
 use Rattle.exact.proofs.sweep.exact.Statement.{statement}
 use Rattle.exact.proofs.sweep.exact.Tie as tie
 
-begin-requires : tie.Need-begin-requires
-begin-requires c κs =
-    let pre = c .before .before .before .before .pre in
-    (pre .0 .labels, (pre .1 .0 .depths-filled, (pre .1 .0 .starts-filled, (refl, refl))))
+number-requires : tie.Need-number-requires
+number-requires c κs = search needs
 
 sweep-requires : tie.Need-sweep-requires
 sweep-requires c κs =
-    let begun = c .before .before .before .before .before .before .before in
-    let pre = begun .before .before .before .before .before .pre in (
-      pre .0,
-      (pre .1 .0, (begun .begin .ensures, record { own = pre .1 .1 .0; rest = pre .1 .1 .1; marks-places = refl })),
+    let pre = c .before .before .before .before .before .before .before .before .before .before .before .pre in (
+      record { beside = pre .0; tables = pre .1; numbered = c .before .before .before .before .before .number .ensures },
+      (refl, record { marks-places = refl; each = λ i below. getD-replicate 4096 i 0 0 below }),
     )
 
 returns : tie.Need-returns
-returns c = (c .sweep .ensures .0, (c .sweep .ensures .1 .own, c .sweep .ensures .1 .rest))
+returns c = search needs
 
 pub exact-spec : {M : Type 1} → statement M
-exact-spec = tie.close (tie.spec begin-requires sweep-requires returns)
+exact-spec = tie.close (tie.spec number-requires sweep-requires returns)

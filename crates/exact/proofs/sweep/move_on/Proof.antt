@@ -1,74 +1,97 @@
--- A junction that waits stays; of any other the next ancestor is the parent of the last, and its list the next.
+-- Each turn moves one junction on.
+use Prim.Native.Nat.{_-_, _≤_}
 use native.Mathlib.Omega.{arith}
 use borrow.Author.Needs.{needs}
-use Rattle.exact.proofs.Levels.{advance-waits, top-inside, place-inside, next-inside, advance-moves}
+use Rattle.exact.proofs.Moving.{Moving, moving-none, here-on-map, place-inside, next-inside, moving-more, moving-all}
 use Rattle.exact.proofs.sweep.move_on.Statement.{statement}
 use Rattle.exact.proofs.sweep.move_on.Tie as tie
 
-mul-if1 : tie.Need-mul-if1
-mul-if1 c = search needs
+abbrev Inv-loop : tie.InvT-loop
+Inv-loop labels spots order u from to places₀ i₀ places i =
+    (i ≤ to) × Moving labels spots from i places₀ places
 
-element-copy-out-if1 : tie.Need-element-copy-out-if1
-element-copy-out-if1 c = search needs
+abbrev μ-loop : tie.MeasureT-loop
+μ-loop labels spots order u from to places₀ i₀ places i = to - i
 
-returns : tie.Need-returns
-returns c = search (advance-waits, needs)
+loop-holds : tie.Need-loop-holds Inv-loop μ-loop
+loop-holds c = (c .before .pre .1 .0 .forward, moving-none (c .before .pre .1 .1 .places-length))
 
-number-of-requires : tie.Need-number-of-requires
+number-of-requires : tie.Need-number-of-requires Inv-loop μ-loop
 number-of-requires c κs = search needs
 
-parent-at-requires : tie.Need-parent-at-requires
-parent-at-requires c κs = search (top-inside, needs)
-
-number-of-requires-2 : tie.Need-number-of-requires-2
-number-of-requires-2 c κs = search needs
-
-next-requires : tie.Need-next-requires
-next-requires c κs = search (place-inside, needs)
-
-mul-tops : tie.Need-mul-tops
-mul-tops c = search needs
-
-element-write-tops : tie.Need-element-write-tops
-element-write-tops c = search needs
-
-cast-places : tie.Need-cast-places
-cast-places c =
-    let test = c .before .before .before .before .before .before in
-    let pre = test .before .before .before .pre in
+number-of-requires-2 : tie.Need-number-of-requires-2 Inv-loop μ-loop
+number-of-requires-2 c κs =
+    let pre = c .before .before .before .before .before .pre in
     omega (
       arith,
-      next-inside (pre .1 .0) (pre .1 .1 .0 .1) (pre .1 .1 .1) (pre .0) (test .if1 .left) (c .before .number-of2 .ensures) (c .next .ensures),
+      here-on-map (pre .0) (pre .1 .0) (pre .1 .1) (c .before .before .before .loop .inv .1) (c .before .before .loop-test .taken) (c .before .number-of .ensures),
+      pre .0 .parents .few-junctions,
+    )
+
+next-requires : tie.Need-next-requires Inv-loop μ-loop
+next-requires c κs =
+    let pre = c .before .before .before .before .before .before .pre in (
+      place-inside (pre .0) (pre .1 .0) (pre .1 .1) (c .before .before .before .before .loop .inv .1) (c .before .before .before .loop-test .taken) (c .before .before .number-of .ensures) (c .number-of2 .ensures),
       pre .0 .few-bytes,
     )
 
-mul-places : tie.Need-mul-places
-mul-places c = search needs
+cast-places : tie.Need-cast-places Inv-loop μ-loop
+cast-places c =
+    let pre = c .before .before .before .before .before .before .before .pre in
+    omega (
+      arith,
+      next-inside (pre .0) (pre .1 .0) (pre .1 .1) (c .before .before .before .before .before .loop .inv .1) (c .before .before .before .before .loop-test .taken) (c .before .before .before .number-of .ensures) (c .before .number-of2 .ensures) (c .next .ensures),
+      pre .0 .few-bytes,
+    )
 
-element-write-places : tie.Need-element-write-places
-element-write-places c = search needs
+mul-places : tie.Need-mul-places Inv-loop μ-loop
+mul-places c =
+    let pre = c .before .before .before .before .before .before .before .pre in
+    omega (
+      arith,
+      here-on-map (pre .0) (pre .1 .0) (pre .1 .1) (c .before .before .before .before .before .loop .inv .1) (c .before .before .before .before .loop-test .taken) (c .before .before .before .number-of .ensures),
+      pre .0 .parents .few-junctions,
+    )
 
-returns-2 : tie.Need-returns-2
-returns-2 c =
-    let test = c .before .before .before .before .before .before in
-    let pre = test .before .before .before .pre in
-    advance-moves (pre .1 .0) (pre .1 .1 .0 .1) (pre .1 .1 .1) (pre .0) (test .if1 .left) (c .before .number-of2 .ensures) (pre .1 .1 .0 .0)
-    (c .before .before .before .before .number-of .ensures) (c .before .before .before .parent-at .ensures .is) (c .next .ensures)
+element-write-places : tie.Need-element-write-places Inv-loop μ-loop
+element-write-places c =
+    let pre = c .before .before .before .before .before .before .before .pre in
+    omega (
+      arith,
+      here-on-map (pre .0) (pre .1 .0) (pre .1 .1) (c .before .before .before .before .before .loop .inv .1) (c .before .before .before .before .loop-test .taken) (c .before .before .before .number-of .ensures),
+      pre .0 .parents .few-junctions,
+    )
+
+add-i : tie.Need-add-i Inv-loop μ-loop
+add-i c = search needs
+
+loop-less : tie.Need-loop-less Inv-loop μ-loop
+loop-less c = search needs
+
+loop-again : tie.Need-loop-again Inv-loop μ-loop
+loop-again c =
+    let pre = c .before .before .before .before .before .before .before .pre in (
+      omega arith,
+      moving-more (pre .0) (pre .1 .0) (pre .1 .1) (c .before .before .before .before .before .loop .inv .1) (c .before .before .before .before .loop-test .taken) (c .before .before .before .number-of .ensures) (c .before .number-of2 .ensures) (c .next .ensures),
+    )
+
+returns : tie.Need-returns Inv-loop μ-loop
+returns c = moving-all (c .before .loop .inv .1) (omega (arith, c .before .loop .inv .0, c .loop-test .left))
 
 pub move-on-spec : {M : Type 1} → statement M
 move-on-spec =
     tie.close
     (tie.spec
-    mul-if1
-    element-copy-out-if1
-    returns
+    Inv-loop
+    μ-loop
+    loop-holds
     number-of-requires
-    parent-at-requires
     number-of-requires-2
     next-requires
-    mul-tops
-    element-write-tops
     cast-places
     mul-places
     element-write-places
-    returns-2)
+    add-i
+    loop-less
+    loop-again
+    returns)

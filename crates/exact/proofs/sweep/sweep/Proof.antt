@@ -1,59 +1,68 @@
--- The lists for the junctions from depth d on agree; a level that fails is one list that is not right.
+-- The lists for the junctions from spot i on agree; a junction that fails is one list that is not right.
 use native.Mathlib.Omega.{arith}
 use borrow.Author.Needs.{needs}
-use Rattle.agree.specs.Agreeing.{Room}
-use Rattle.exact.specs.Testing.{LevelAgrees}
-use Rattle.exact.specs.Sweep.{AtLevel}
-use Rattle.exact.proofs.Levels.{waiting-level}
-use Rattle.exact.proofs.Verdicts.{Descending, descending-more, deepest-agrees, level-fails, levels-end}
+use borrow.Author.Tests.{not-false}
+use mathlib.Core.Path.{_≡_}
+use Prim.Native.Nat.{ℕ, _+_, _-_, _≤_, _<_}
+use Rattle.network.specs.NetworkFile.{junctionsOf}
+use Rattle.agree.specs.Agreeing.{Unmarked}
+use Rattle.exact.specs.Sweep.{Swept}
+use Rattle.exact.proofs.Sweeping.{swept-none}
+use Rattle.exact.proofs.Verdicts.{AgreedFrom, from-none, from-more, from-fails, from-all}
 use Rattle.exact.proofs.sweep.sweep.Statement.{statement}
 use Rattle.exact.proofs.sweep.sweep.Tie as tie
 
 abbrev Inv-loop : tie.InvT-loop
-Inv-loop net labels depths starts heads nexts deepest tops₀ places₀ own-times₀ own-energies₀ rest-times₀ rest-energies₀ marks₀ d₀ tops places own-times own-energies rest-times rest-energies marks d =
-    Descending (LevelAgrees net labels) d × AtLevel labels d tops places × Room own-times own-energies rest-times rest-energies marks
+Inv-loop net labels depths starts heads nexts spots sizes order places₀ marks₀ i₀ places marks i =
+    (i ≤ junctionsOf labels) × AgreedFrom net labels order i × Swept labels spots i places × Unmarked marks
 
 abbrev μ-loop : tie.MeasureT-loop
-μ-loop net labels depths starts heads nexts deepest tops₀ places₀ own-times₀ own-energies₀ rest-times₀ rest-energies₀ marks₀ d₀ tops places own-times own-energies rest-times rest-energies marks d = d
+μ-loop net labels depths starts heads nexts spots sizes order places₀ marks₀ i₀ places marks i = i
+
+-- one spot less and one more
+one-less : {i : ℕ} → 0 < i → i - 1 + 1 ≡ i
+one-less some = omega arith
+
+u16-at-requires : tie.Need-u16-at-requires Inv-loop μ-loop
+u16-at-requires c κs = search needs
+
+cast-i : tie.Need-cast-i Inv-loop μ-loop
+cast-i c = search needs
 
 loop-holds : tie.Need-loop-holds Inv-loop μ-loop
 loop-holds c =
-    let pre = c .before .before .pre in
-    (deepest-agrees (pre .0) (pre .1 .1 .0), waiting-level (pre .1 .1 .0), pre .1 .1 .1)
+    let pre = c .before .before .before .pre in
+    let input = pre .0 in
+    let read = c .u16-at .ensures .is in
+    (omega (arith, read), from-none (input .beside) (input .numbered) read, swept-none (input .beside .labels) (input .numbered) read (pre .1 .0), pre .1 .1)
 
-advance-requires : tie.Need-advance-requires Inv-loop μ-loop
-advance-requires c κs =
-    let turn = c .before .before .before in
-    let pre = turn .before .before .before .pre in
-    (pre .0 .labels, (pre .1 .0 .depths-filled, (omega arith, turn .loop .inv .1)))
+sub-i : tie.Need-sub-i Inv-loop μ-loop
+sub-i c = search needs
 
-sub-d : tie.Need-sub-d Inv-loop μ-loop
-sub-d c = search needs
-
-level-requires : tie.Need-level-requires Inv-loop μ-loop
-level-requires c κs =
-    let moved = c .before .before .before .before .before .before .before in
-    let turn = moved .before .before .before .before in
-    let pre = turn .before .before .before .pre in
-    (record { beside = pre .0; tables = pre .1 .0; level = moved .advance .ensures }, turn .loop .inv .2)
+junction-agrees-requires : tie.Need-junction-agrees-requires Inv-loop μ-loop
+junction-agrees-requires c κs =
+    let now = c .before .before .before .loop .inv in
+    (c .before .before .before .before .before .before .before .pre .0, (omega arith, (rw (one-less (c .before .before .loop-test .taken)) (now .2), now .3)))
 
 returns : tie.Need-returns Inv-loop μ-loop
 returns c =
-    let moved = c .before .before .before .before .before .before .before .before .before in
-    let turn = moved .before .before .before .before in
-    (level-fails (turn .before .before .before .pre .0) (turn .loop .inv .0) (c .before .level .ensures .0) (c .if1 .taken), c .before .level .ensures .1)
+    let input = c .before .before .before .before .before .before .before .before .before .pre .0 in
+    from-fails (input .beside) (input .numbered) (c .before .before .before .before .before .loop .inv .1) (c .before .junction-agrees .ensures .0) (c .if1 .taken)
 
 loop-less : tie.Need-loop-less Inv-loop μ-loop
 loop-less c = search needs
 
 loop-again : tie.Need-loop-again Inv-loop μ-loop
 loop-again c =
-    let moved = c .before .before .before .before .before .before .before .before .before in
-    let turn = moved .before .before .before .before in
-    (descending-more (turn .loop .inv .0) (c .before .level .ensures .0) (c .if1 .left), moved .advance .ensures, c .before .level .ensures .1)
+    let input = c .before .before .before .before .before .before .before .before .before .pre .0 in
+    let now = c .before .before .before .before .before .loop .inv in
+    let swept = c .before .junction-agrees .ensures .1 (not-false _ (c .if1 .left)) in
+    (omega (arith, now .0), from-more (input .beside) (input .numbered) (now .1) (c .before .junction-agrees .ensures .0) (c .if1 .left), swept .0, swept .1)
 
 returns-2 : tie.Need-returns-2 Inv-loop μ-loop
-returns-2 c = (levels-end (c .before .before .before .before .pre .0) (c .before .loop .inv .0) (c .loop-test .left), c .before .loop .inv .2)
+returns-2 c =
+    let input = c .before .before .before .before .before .pre .0 in
+    from-all (input .beside) (input .numbered) (c .before .loop .inv .1) (c .loop-test .left)
 
 pub sweep-spec : {M : Type 1} → statement M
 sweep-spec =
@@ -61,10 +70,11 @@ sweep-spec =
     (tie.spec
     Inv-loop
     μ-loop
+    u16-at-requires
+    cast-i
     loop-holds
-    advance-requires
-    sub-d
-    level-requires
+    sub-i
+    junction-agrees-requires
     returns
     loop-less
     loop-again
