@@ -6,9 +6,7 @@ use native.Mathlib.Omega.{arith}
 use Rattle.network.proofs.Accepted.{network-fits}
 use Rattle.files.proofs.FormLaws.{form-beside-passed}
 use Rattle.agree.specs.Right.{Accepted}
-use lib.ListN.{length}
-use Rattle.agree.specs.Agreeing.{ListRoom}
-use Rattle.query.specs.Prepared.{Prepared, Lent}
+use Rattle.query.specs.Prepared.{Prepared}
 use Rattle.labels.specs.Check.{Checked, network-refused, labels-refused, list-wrong, accepted}
 use Rattle.labels.specs.Working.{Accepting}
 
@@ -35,17 +33,4 @@ ready-for-queries {net} {s} accepting none =
       every-list-right = a .every-list-right;
       depths-filled = accepting .tables none .depths-filled;
       starts-filled = accepting .tables none .starts-filled;
-    }
-
--- what was lent to the check serves the queries
-pub lists-lent :
-    {marks nearTimes nearEnergies farTimes farEnergies : List ℕ} →
-    length marks ≡ 1024 → ListRoom nearTimes nearEnergies → ListRoom farTimes farEnergies → Lent marks nearTimes nearEnergies farTimes farEnergies
-lists-lent marks near far =
-    record {
-      marks-places = marks;
-      near-times-places = near .times-places;
-      near-energies-places = near .energies-places;
-      far-times-places = far .times-places;
-      far-energies-places = far .energies-places;
     }

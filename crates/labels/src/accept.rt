@@ -6,7 +6,6 @@ use network::network::net_number;
 use network::roads::group_roads;
 ghost use mathlib.Core.Path.{_≡_};
 ghost use lib.ListN.{length};
-ghost use Rattle.agree.specs.Agreeing.{ListRoom};
 ghost use Rattle.labels.specs.Working.{Accepting};
 
 pub fn accept(
@@ -16,16 +15,9 @@ pub fn accept(
     starts: &mut [u32; 1024],
     heads: &mut [u32; 1024],
     nexts: &mut [u32; 8192],
-    near_times: &mut [u32; 4096],
-    near_energies: &mut [u32; 4096],
-    far_times: &mut [u32; 4096],
-    far_energies: &mut [u32; 4096],
 ) -> u32
     requires { ⌜ (length (now depths) ≡ 1024) × (length (now starts) ≡ 1024) × (length (now heads) ≡ 1024) × (length (now nexts) ≡ 8192) ⌝ }
-    requires { ⌜ ListRoom (now «near_times») (now «near_energies») × ListRoom (now «far_times») (now «far_energies») ⌝ }
     ensures { λ r. ⌜ Accepting (now (net .entry)) (now (labels .entry)) r (now (depths .exit)) (now (starts .exit)) (now (heads .exit)) (now (nexts .exit)) ⌝ }
-    ensures { λ _.
-        ⌜ ListRoom (now («near_times» .exit)) (now («near_energies» .exit)) × ListRoom (now («far_times» .exit)) (now («far_energies» .exit)) ⌝ }
 {
     let number = net_number(net);
     if number != 0 {
@@ -36,18 +28,7 @@ pub fn accept(
         return form;
     }
     group_roads(net, heads, nexts);
-    if exact(
-        net,
-        labels,
-        depths,
-        starts,
-        heads,
-        nexts,
-        near_times,
-        near_energies,
-        far_times,
-        far_energies,
-    ) {
+    if exact(net, labels, depths, starts, heads, nexts) {
         return 0;
     }
     18

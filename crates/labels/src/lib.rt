@@ -51,10 +51,6 @@ pub fn check(net: &[u8], labels: &[u8]) -> u32
     let mut starts: [u32; 1024] = [0; 1024];
     let mut heads: [u32; 1024] = [0; 1024];
     let mut nexts: [u32; 8192] = [0; 8192];
-    let mut near_times: [u32; 4096] = [0; 4096];
-    let mut near_energies: [u32; 4096] = [0; 4096];
-    let mut far_times: [u32; 4096] = [0; 4096];
-    let mut far_energies: [u32; 4096] = [0; 4096];
     accept::accept(
         net,
         labels,
@@ -62,10 +58,6 @@ pub fn check(net: &[u8], labels: &[u8]) -> u32
         &mut starts,
         &mut heads,
         &mut nexts,
-        &mut near_times,
-        &mut near_energies,
-        &mut far_times,
-        &mut far_energies,
     )
 }
 
@@ -79,11 +71,6 @@ pub fn batch(net: &[u8], labels: &[u8], queries: &[u32], answers: &mut [u32]) ->
     let mut starts: [u32; 1024] = [0; 1024];
     let mut heads: [u32; 1024] = [0; 1024];
     let mut nexts: [u32; 8192] = [0; 8192];
-    let mut marks: [u8; 1024] = [0; 1024];
-    let mut near_times: [u32; 4096] = [0; 4096];
-    let mut near_energies: [u32; 4096] = [0; 4096];
-    let mut far_times: [u32; 4096] = [0; 4096];
-    let mut far_energies: [u32; 4096] = [0; 4096];
     let length = queries.len();
     if length % 3 != 0 {
         return 31;
@@ -101,28 +88,11 @@ pub fn batch(net: &[u8], labels: &[u8], queries: &[u32], answers: &mut [u32]) ->
         &mut starts,
         &mut heads,
         &mut nexts,
-        &mut near_times,
-        &mut near_energies,
-        &mut far_times,
-        &mut far_energies,
     );
     if number != 0 {
         return number;
     }
-    triples::answer_all(
-        net,
-        labels,
-        &depths,
-        &starts,
-        queries,
-        length / 3,
-        answers,
-        &mut marks,
-        &mut near_times,
-        &mut near_energies,
-        &mut far_times,
-        &mut far_energies,
-    );
+    triples::answer_all(net, labels, &depths, &starts, queries, length / 3, answers);
     0
 }
 
@@ -145,10 +115,6 @@ pub fn route(
     let mut heads: [u32; 1024] = [0; 1024];
     let mut nexts: [u32; 8192] = [0; 8192];
     let mut marks: [u8; 1024] = [0; 1024];
-    let mut near_times: [u32; 4096] = [0; 4096];
-    let mut near_energies: [u32; 4096] = [0; 4096];
-    let mut far_times: [u32; 4096] = [0; 4096];
-    let mut far_energies: [u32; 4096] = [0; 4096];
     let number = accept::accept(
         net,
         labels,
@@ -156,10 +122,6 @@ pub fn route(
         &mut starts,
         &mut heads,
         &mut nexts,
-        &mut near_times,
-        &mut near_energies,
-        &mut far_times,
-        &mut far_energies,
     );
     if number != 0 {
         return RouteAnswer::NotAccepted(number);
@@ -176,10 +138,6 @@ pub fn route(
         limit,
         junctions,
         &mut marks,
-        &mut near_times,
-        &mut near_energies,
-        &mut far_times,
-        &mut far_energies,
     )
 }
 
@@ -201,11 +159,6 @@ pub fn list(
     let mut starts: [u32; 1024] = [0; 1024];
     let mut heads: [u32; 1024] = [0; 1024];
     let mut nexts: [u32; 8192] = [0; 8192];
-    let mut marks: [u8; 1024] = [0; 1024];
-    let mut near_times: [u32; 4096] = [0; 4096];
-    let mut near_energies: [u32; 4096] = [0; 4096];
-    let mut far_times: [u32; 4096] = [0; 4096];
-    let mut far_energies: [u32; 4096] = [0; 4096];
     let number = accept::accept(
         net,
         labels,
@@ -213,29 +166,11 @@ pub fn list(
         &mut starts,
         &mut heads,
         &mut nexts,
-        &mut near_times,
-        &mut near_energies,
-        &mut far_times,
-        &mut far_energies,
     );
     if number != 0 {
         return ListAnswer::NotAccepted(number);
     }
-    whole::write_list(
-        net,
-        labels,
-        &depths,
-        &starts,
-        s,
-        t,
-        times,
-        energies,
-        &mut marks,
-        &mut near_times,
-        &mut near_energies,
-        &mut far_times,
-        &mut far_energies,
-    )
+    whole::write_list(net, labels, &depths, &starts, s, t, times, energies)
 }
 
 // Join: the unbeaten sums of two lists, each once, in order, into the first places of two lent slices; how many, or 41, 42, 24.

@@ -13,7 +13,7 @@ ghost use Rattle.paths.specs.Weights.{pair};
 ghost use Rattle.paths.specs.TradeOff.{Skyline};
 ghost use Rattle.network.specs.NetworkFile.{networkOf, junctionsOf};
 ghost use Rattle.network.specs.Roads.{Grouped};
-ghost use Rattle.query.specs.Prepared.{Prepared, Lent};
+ghost use Rattle.query.specs.Prepared.{Prepared};
 ghost use Rattle.labels.specs.Check.{Checked};
 ghost use Rattle.labels.specs.Route.{Routed};
 ghost use Rattle.labels.specs.RouteAnswers.{routeNumberOf, routeTimeOf, routeEnergyOf, routeCountOf};
@@ -78,33 +78,16 @@ pub fn answer_route(
     limit: u32,
     junctions: &mut [u32],
     marks: &mut [u8; 1024],
-    near_times: &mut [u32; 4096],
-    near_energies: &mut [u32; 4096],
-    far_times: &mut [u32; 4096],
-    far_energies: &mut [u32; 4096],
 ) -> RouteAnswer
     requires { ⌜ Checked (now net) (now labels) 0 ⌝ }
     requires { ⌜ Prepared (now net) (now labels) (now depths) (now starts) ⌝ }
     requires { ⌜ Grouped (now net) (now heads) (now nexts) ⌝ }
-    requires { ⌜ Lent (now marks) (now «near_times») (now «near_energies») (now «far_times») (now «far_energies») ⌝ }
+    requires { ⌜ length (now marks) ≡ 1024 ⌝ }
     ensures { λ r.
         ⌜ Routed (now (net .entry)) (now (labels .entry)) s t limit (now (junctions .entry))
         (routeNumberOf r) (routeTimeOf r) (routeEnergyOf r) (routeCountOf r) (now (junctions .exit)) ⌝ }
 {
-    let found = answer(
-        net,
-        labels,
-        depths,
-        starts,
-        s,
-        t,
-        limit,
-        marks,
-        near_times,
-        near_energies,
-        far_times,
-        far_energies,
-    );
+    let found = answer(net, labels, depths, starts, s, t, limit);
     match found {
         Answer::Found(time, units) => put_route(
             net,

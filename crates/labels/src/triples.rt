@@ -5,7 +5,7 @@ ghost use mathlib.Core.Path.{_≡_};
 ghost use Prim.Native.Nat.{_+_, _<_};
 ghost use lib.ListN.{length};
 ghost use Rattle.query.specs.Answers.{numberOf, timeOf, energyOf};
-ghost use Rattle.query.specs.Prepared.{Prepared, Lent};
+ghost use Rattle.query.specs.Prepared.{Prepared};
 ghost use Rattle.labels.specs.Working.{putTriple, AnsweredTo, Triples};
 
 // "21, 22, 23"; 0 for a found pair.
@@ -45,15 +45,9 @@ pub fn answer_all(
     queries: &[u32],
     count: usize,
     answers: &mut [u32],
-    marks: &mut [u8; 1024],
-    near_times: &mut [u32; 4096],
-    near_energies: &mut [u32; 4096],
-    far_times: &mut [u32; 4096],
-    far_energies: &mut [u32; 4096],
 )
     requires { ⌜ Prepared (now net) (now labels) (now depths) (now starts) ⌝ }
     requires { ⌜ Triples (now queries) (now answers) count ⌝ }
-    requires { ⌜ Lent (now marks) (now «near_times») (now «near_energies») (now «far_times») (now «far_energies») ⌝ }
     ensures { λ _. ⌜ AnsweredTo (now (net .entry)) (now (queries .entry)) (now (answers .entry)) (now (answers .exit)) count ⌝ }
 {
     let mut i = 0;
@@ -67,11 +61,6 @@ pub fn answer_all(
             queries[at],
             queries[at + 1],
             queries[at + 2],
-            marks,
-            near_times,
-            near_energies,
-            far_times,
-            far_energies,
         );
         put_answer(answers, at, found);
         i += 1;

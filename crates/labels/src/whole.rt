@@ -6,7 +6,7 @@ use routes::list::list_fill;
 ghost use mathlib.Core.Path.{_≡_};
 ghost use Prim.Native.Nat.{_<_, min};
 ghost use Rattle.network.specs.NetworkFile.{junctionsOf};
-ghost use Rattle.query.specs.Prepared.{Prepared, Lent};
+ghost use Rattle.query.specs.Prepared.{Prepared};
 ghost use Rattle.labels.specs.Check.{Checked};
 ghost use Rattle.labels.specs.List.{Listed};
 ghost use Rattle.labels.specs.ListAnswers.{listNumberOf, listCountOf};
@@ -31,55 +31,22 @@ fn list_on_map(
     y: usize,
     times: &mut [u32],
     energies: &mut [u32],
-    marks: &mut [u8; 1024],
-    near_times: &mut [u32; 4096],
-    near_energies: &mut [u32; 4096],
-    far_times: &mut [u32; 4096],
-    far_energies: &mut [u32; 4096],
 ) -> ListAnswer
     requires { ⌜ Checked (now net) (now labels) 0 ⌝ }
     requires { ⌜ Prepared (now net) (now labels) (now depths) (now starts) ⌝ }
     requires { ⌜ (x < junctionsOf (now labels)) × (y < junctionsOf (now labels)) ⌝ }
-    requires { ⌜ Lent (now marks) (now «near_times») (now «near_energies») (now «far_times») (now «far_energies») ⌝ }
     ensures { λ r.
         ⌜ Listed (now (net .entry)) (now (labels .entry)) x y (now (times .entry)) (now (energies .entry))
         (listNumberOf r) (listCountOf r) (now (times .exit)) (now (energies .exit)) ⌝ }
 {
-    let count = list_count(
-        net,
-        labels,
-        depths,
-        starts,
-        x,
-        y,
-        marks,
-        near_times,
-        near_energies,
-        far_times,
-        far_energies,
-    );
+    let count = list_count(net, labels, depths, starts, x, y);
     if count == 0 {
         return ListAnswer::NotConnected;
     }
     if shorter(times.len(), energies.len()) < count as usize {
         return ListAnswer::NoRoom;
     }
-    list_fill(
-        net,
-        labels,
-        depths,
-        starts,
-        x,
-        y,
-        count,
-        times,
-        energies,
-        marks,
-        near_times,
-        near_energies,
-        far_times,
-        far_energies,
-    );
+    list_fill(net, labels, depths, starts, x, y, count, times, energies);
     ListAnswer::Listed(count)
 }
 
@@ -93,15 +60,9 @@ pub fn write_list(
     t: u32,
     times: &mut [u32],
     energies: &mut [u32],
-    marks: &mut [u8; 1024],
-    near_times: &mut [u32; 4096],
-    near_energies: &mut [u32; 4096],
-    far_times: &mut [u32; 4096],
-    far_energies: &mut [u32; 4096],
 ) -> ListAnswer
     requires { ⌜ Checked (now net) (now labels) 0 ⌝ }
     requires { ⌜ Prepared (now net) (now labels) (now depths) (now starts) ⌝ }
-    requires { ⌜ Lent (now marks) (now «near_times») (now «near_energies») (now «far_times») (now «far_energies») ⌝ }
     ensures { λ r.
         ⌜ Listed (now (net .entry)) (now (labels .entry)) s t (now (times .entry)) (now (energies .entry))
         (listNumberOf r) (listCountOf r) (now (times .exit)) (now (energies .exit)) ⌝ }
@@ -122,10 +83,5 @@ pub fn write_list(
         t as usize,
         times,
         energies,
-        marks,
-        near_times,
-        near_energies,
-        far_times,
-        far_energies,
     )
 }

@@ -6,7 +6,6 @@ use joins::join::join;
 use joins::limited::limited_join;
 use labels::accept::accept;
 use labels::triples::answer_all;
-use lists::cover::cover;
 use network::network::net_number;
 use paths::energy::Energy;
 use paths::seconds::Seconds;
@@ -21,11 +20,9 @@ ghost use Rattle.paths.specs.Weights.{pair};
 ghost use Rattle.paths.specs.TradeOff.{Skyline, IsTradeOff};
 ghost use Rattle.network.specs.NetworkFile.{junctionsOf, networkOf};
 ghost use Rattle.network.specs.Roads.{Grouped};
-ghost use Rattle.lists.specs.Entries.{IsList, Weight};
-ghost use Rattle.lists.specs.Cover.{Covering};
+ghost use Rattle.lists.specs.Entries.{Weight};
 ghost use Rattle.joins.specs.Answers.{Join, LimitedJoin};
-ghost use Rattle.agree.specs.Agreeing.{ListRoom};
-ghost use Rattle.query.specs.Prepared.{Prepared, Lent};
+ghost use Rattle.query.specs.Prepared.{Prepared};
 ghost use Rattle.routes.specs.Written.{RouteFound, ListWritten};
 ghost use Rattle.labels.specs.Check.{Checked};
 ghost use Rattle.labels.specs.Working.{Accepting, Triples, AnsweredTo};
@@ -66,36 +63,6 @@ pub extern "C" fn measured_form(net: &[u8], labels: &[u8]) -> u32
     let mut depths: [u32; 1024] = [0; 1024];
     let mut starts: [u32; 1024] = [0; 1024];
     form_beside(net, labels, &mut depths, &mut starts)
-}
-
-// Covering. The caller in Rust meets what is required: bench/ makes its lists of rising energies and falling times up to
-// 2,147,483,647, of one length each, takes the arc's figures up to 65,535, and lends a mark for each entry.
-#[no_mangle]
-pub extern "C" fn measured_cover(
-    times: &[u32],
-    energies: &[u32],
-    arc_time: u32,
-    arc_energy: u32,
-    rest_times: &[u32],
-    rest_energies: &[u32],
-    marks: &mut [u8],
-) -> bool
-    requires { ⌜ IsList 2147483647 (now times) (now energies) ⌝ }
-    requires { ⌜ IsList 2147483647 (now «rest_times») (now «rest_energies») ⌝ }
-    requires { ⌜ «arc_time» ≤ 65535 ⌝ }
-    requires { ⌜ «arc_energy» ≤ 65535 ⌝ }
-    requires { ⌜ length (now times) ≤ length (now marks) ⌝ }
-    ensures { λ r. ⌜ Covering (now (times .entry)) (now (energies .entry)) (now («rest_times» .entry)) (now («rest_energies» .entry)) (pair «arc_time» «arc_energy») (now (marks .entry)) (now (marks .exit)) r ⌝ }
-{
-    cover(
-        times,
-        energies,
-        Seconds(arc_time),
-        Energy(arc_energy),
-        rest_times,
-        rest_energies,
-        marks,
-    )
 }
 
 // Join, for all inputs.
@@ -202,27 +169,11 @@ pub extern "C" fn measured_accept(
     starts: &mut [u32; 1024],
     heads: &mut [u32; 1024],
     nexts: &mut [u32; 8192],
-    near_times: &mut [u32; 4096],
-    near_energies: &mut [u32; 4096],
-    far_times: &mut [u32; 4096],
-    far_energies: &mut [u32; 4096],
 ) -> u32
     requires { ⌜ (length (now depths) ≡ 1024) × (length (now starts) ≡ 1024) × (length (now heads) ≡ 1024) × (length (now nexts) ≡ 8192) ⌝ }
-    requires { ⌜ ListRoom (now «near_times») (now «near_energies») × ListRoom (now «far_times») (now «far_energies») ⌝ }
     ensures { λ r. ⌜ Accepting (now (net .entry)) (now (labels .entry)) r (now (depths .exit)) (now (starts .exit)) (now (heads .exit)) (now (nexts .exit)) ⌝ }
 {
-    accept(
-        net,
-        labels,
-        depths,
-        starts,
-        heads,
-        nexts,
-        near_times,
-        near_energies,
-        far_times,
-        far_energies,
-    )
+    accept(net, labels, depths, starts, heads, nexts)
 }
 
 // A batch after the check. The answers are as many places as the queries, three to each of `count` triples.
@@ -235,31 +186,12 @@ pub extern "C" fn measured_answers(
     queries: &[u32],
     count: usize,
     answers: &mut [u32],
-    marks: &mut [u8; 1024],
-    near_times: &mut [u32; 4096],
-    near_energies: &mut [u32; 4096],
-    far_times: &mut [u32; 4096],
-    far_energies: &mut [u32; 4096],
 )
     requires { ⌜ Prepared (now net) (now labels) (now depths) (now starts) ⌝ }
     requires { ⌜ Triples (now queries) (now answers) count ⌝ }
-    requires { ⌜ Lent (now marks) (now «near_times») (now «near_energies») (now «far_times») (now «far_energies») ⌝ }
     ensures { λ _. ⌜ AnsweredTo (now (net .entry)) (now (queries .entry)) (now (answers .entry)) (now (answers .exit)) count ⌝ }
 {
-    answer_all(
-        net,
-        labels,
-        depths,
-        starts,
-        queries,
-        count,
-        answers,
-        marks,
-        near_times,
-        near_energies,
-        far_times,
-        far_energies,
-    );
+    answer_all(net, labels, depths, starts, queries, count, answers);
 }
 
 // The first route of an unbeaten pair, which bench/ takes from a batch.
@@ -310,30 +242,12 @@ pub extern "C" fn measured_list_count(
     starts: &[u32; 1024],
     s: usize,
     t: usize,
-    marks: &mut [u8; 1024],
-    near_times: &mut [u32; 4096],
-    near_energies: &mut [u32; 4096],
-    far_times: &mut [u32; 4096],
-    far_energies: &mut [u32; 4096],
 ) -> u32
     requires { ⌜ Prepared (now net) (now labels) (now depths) (now starts) ⌝ }
     requires { ⌜ (s < junctionsOf (now labels)) × (t < junctionsOf (now labels)) ⌝ }
-    requires { ⌜ Lent (now marks) (now «near_times») (now «near_energies») (now «far_times») (now «far_energies») ⌝ }
     ensures { λ r. ⌜ ((l : List Weight) → IsTradeOff (networkOf (now (net .entry))) s t l → r ≡ length l) ⌝ }
 {
-    list_count(
-        net,
-        labels,
-        depths,
-        starts,
-        s,
-        t,
-        marks,
-        near_times,
-        near_energies,
-        far_times,
-        far_energies,
-    )
+    list_count(net, labels, depths, starts, s, t)
 }
 
 // The list itself, whose count comes from the function above, into slices that have room for it.
@@ -348,33 +262,12 @@ pub extern "C" fn measured_list_fill(
     count: u32,
     times: &mut [u32],
     energies: &mut [u32],
-    marks: &mut [u8; 1024],
-    near_times: &mut [u32; 4096],
-    near_energies: &mut [u32; 4096],
-    far_times: &mut [u32; 4096],
-    far_energies: &mut [u32; 4096],
 )
     requires { ⌜ Prepared (now net) (now labels) (now depths) (now starts) ⌝ }
     requires { ⌜ (s < junctionsOf (now labels)) × (t < junctionsOf (now labels)) ⌝ }
     requires { ⌜ ((l : List Weight) → IsTradeOff (networkOf (now net)) s t l → count ≡ length l) ⌝ }
     requires { ⌜ (count ≤ length (now times)) × (count ≤ length (now energies)) ⌝ }
-    requires { ⌜ Lent (now marks) (now «near_times») (now «near_energies») (now «far_times») (now «far_energies») ⌝ }
     ensures { λ _. ⌜ ListWritten (now (net .entry)) s t (now (times .entry)) (now (energies .entry)) count (now (times .exit)) (now (energies .exit)) ⌝ }
 {
-    list_fill(
-        net,
-        labels,
-        depths,
-        starts,
-        s,
-        t,
-        count,
-        times,
-        energies,
-        marks,
-        near_times,
-        near_energies,
-        far_times,
-        far_energies,
-    );
+    list_fill(net, labels, depths, starts, s, t, count, times, energies);
 }

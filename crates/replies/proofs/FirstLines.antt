@@ -6,7 +6,6 @@ use native.Mathlib.Omega.{arith}
 use lib.ListN.{length}
 use Rattle.network.specs.Bytes.{u32At}
 use Rattle.network.specs.Reads.{ReadU16}
-use Rattle.agree.specs.Agreeing.{ListRoom}
 use Rattle.labels.specs.Working.{Accepting}
 use Rattle.labels.proofs.Accepted.{ready-for-queries}
 use Rattle.replies.specs.Lines.{headingLine, refusedLine}
@@ -49,20 +48,6 @@ module _ {net s depths starts heads nexts : List ℕ} {number : ℕ} (accepting 
         places = line .put .one-length ∙ long;
       }
 
--- the places of the check serve the replies
-pub places-lent :
-    {junctions marks nearTimes nearEnergies farTimes farEnergies : List ℕ} →
-    length junctions ≡ 1024 → length marks ≡ 1024 → ListRoom nearTimes nearEnergies × ListRoom farTimes farEnergies →
-    Places junctions marks nearTimes nearEnergies farTimes farEnergies
-places-lent j m room =
-    record {
-      junctions-places = j;
-      lent =
-          record {
-            marks-places = m;
-            near-times-places = room .0 .times-places;
-            near-energies-places = room .0 .energies-places;
-            far-times-places = room .1 .times-places;
-            far-energies-places = room .1 .energies-places;
-          };
-    }
+-- a call's own places serve the replies
+pub places-lent : {junctions marks : List ℕ} → length junctions ≡ 1024 → length marks ≡ 1024 → Places junctions marks
+places-lent j m = record { junctions-places = j; marks-places = m }

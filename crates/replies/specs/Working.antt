@@ -9,7 +9,7 @@ use Rattle.text.specs.Writing.{Appended}
 use Rattle.network.specs.NetworkFile.{junctionsOf, roadsOf}
 use Rattle.network.specs.Roads.{Grouped}
 use Rattle.forest.specs.LabelFile.{entriesOf}
-use Rattle.query.specs.Prepared.{Prepared, Lent}
+use Rattle.query.specs.Prepared.{Prepared}
 use Rattle.labels.specs.Working.{Accepting}
 use Rattle.replies.specs.Lines.{_␣_, headingLine, refusedLine}
 use Rattle.replies.specs.Reply.{Reply}
@@ -48,9 +48,9 @@ pub record Ready (net labels depths starts heads nexts : List ℕ) : Type 0 wher
   pub grouped : Grouped net heads nexts
 
 -- The places lent to every reply
-pub record Places (junctions marks nearTimes nearEnergies farTimes farEnergies : List ℕ) : Type 0 where
+pub record Places (junctions marks : List ℕ) : Type 0 where
   pub junctions-places : length junctions ≡ 1024
-  pub lent : Lent marks nearTimes nearEnergies farTimes farEnergies
+  pub marks-places : length marks ≡ 1024
 
 -- The buffer holds the replies to the lines from byte `from` on and before byte `next`, and at least one if there is a line
 pub record FilledTo (net input : List ℕ) (from : ℕ) (out : List ℕ) (next used : ℕ) : Type 0 where

@@ -7,7 +7,6 @@ use network::bytes::u16_at;
 use network::bytes::u32_at;
 ghost use mathlib.Core.Path.{_≡_};
 ghost use lib.ListN.{length};
-ghost use Rattle.agree.specs.Agreeing.{ListRoom};
 ghost use Rattle.replies.specs.Working.{FirstLine};
 
 // Checks the files once and puts the heading, or the refusal, at the start of the buffer.
@@ -18,33 +17,15 @@ pub fn begin(
     starts: &mut [u32; 1024],
     heads: &mut [u32; 1024],
     nexts: &mut [u32; 8192],
-    near_times: &mut [u32; 4096],
-    near_energies: &mut [u32; 4096],
-    far_times: &mut [u32; 4096],
-    far_energies: &mut [u32; 4096],
     out: &mut [u8],
 ) -> Begun
     requires { ⌜ (length (now depths) ≡ 1024) × (length (now starts) ≡ 1024) × (length (now heads) ≡ 1024) × (length (now nexts) ≡ 8192) ⌝ }
-    requires { ⌜ ListRoom (now «near_times») (now «near_energies») × ListRoom (now «far_times») (now «far_energies») ⌝ }
     requires { ⌜ length (now out) ≡ 65536 ⌝ }
     ensures { λ r.
         ⌜ FirstLine (now (net .entry)) (now (labels .entry)) (now (depths .exit)) (now (starts .exit)) (now (heads .exit)) (now (nexts .exit))
         (now (out .exit)) (r .number) (r .used) ⌝ }
-    ensures { λ _.
-        ⌜ ListRoom (now («near_times» .exit)) (now («near_energies» .exit)) × ListRoom (now («far_times» .exit)) (now («far_energies» .exit)) ⌝ }
 {
-    let number = accept(
-        net,
-        labels,
-        depths,
-        starts,
-        heads,
-        nexts,
-        near_times,
-        near_energies,
-        far_times,
-        far_energies,
-    );
+    let number = accept(net, labels, depths, starts, heads, nexts);
     if number != 0 {
         let refused = put_refused(out, number);
         return Begun {

@@ -20,18 +20,12 @@ pub fn fill(
     out: &mut [u8],
     junctions: &mut [u32; 1024],
     marks: &mut [u8; 1024],
-    near_times: &mut [u32; 4096],
-    near_energies: &mut [u32; 4096],
-    far_times: &mut [u32; 4096],
-    far_energies: &mut [u32; 4096],
 ) -> Filled
     requires { ⌜ Ready (now net) (now labels) (now depths) (now starts) (now heads) (now nexts) ⌝ }
-    requires { ⌜ Places (now junctions) (now marks) (now «near_times») (now «near_energies») (now «far_times») (now «far_energies») ⌝ }
+    requires { ⌜ Places (now junctions) (now marks) ⌝ }
     requires { ⌜ (length (now input) ≤ 65536) × (length (now out) ≡ 65536) ⌝ }
     ensures { λ r. ⌜ FilledTo (now (net .entry)) (now (input .entry)) from (now (out .exit)) (r .next) (r .used) ⌝ }
-    ensures { λ _.
-        ⌜ Places (now (junctions .exit)) (now (marks .exit)) (now («near_times» .exit)) (now («near_energies» .exit))
-        (now («far_times» .exit)) (now («far_energies» .exit)) ⌝ }
+    ensures { λ _. ⌜ Places (now (junctions .exit)) (now (marks .exit)) ⌝ }
 {
     let mut next = from;
     let mut used: usize = 0;
@@ -57,10 +51,6 @@ pub fn fill(
             used,
             junctions,
             marks,
-            near_times,
-            near_energies,
-            far_times,
-            far_energies,
         );
         next = end + 1;
     }

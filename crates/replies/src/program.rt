@@ -5,7 +5,6 @@ ghost use mathlib.Core.Path.{_≡_};
 ghost use Prim.Native.Nat.{_≤_};
 ghost use lib.ListN.{length};
 ghost use Rattle.io.specs.Counts.{Counts};
-ghost use Rattle.agree.specs.Agreeing.{ListRoom};
 ghost use Rattle.replies.specs.Working.{Ready, Places};
 
 // How many bytes of the file stand in the buffer; none if it is longer than the buffer or cannot be read.
@@ -39,13 +38,9 @@ fn print_replies(
     out: &mut [u8],
     junctions: &mut [u32; 1024],
     marks: &mut [u8; 1024],
-    near_times: &mut [u32; 4096],
-    near_energies: &mut [u32; 4096],
-    far_times: &mut [u32; 4096],
-    far_energies: &mut [u32; 4096],
 )
     requires { ⌜ Ready (now net) (now labels) (now depths) (now starts) (now heads) (now nexts) ⌝ }
-    requires { ⌜ Places (now junctions) (now marks) (now «near_times») (now «near_energies») (now «far_times») (now «far_energies») ⌝ }
+    requires { ⌜ Places (now junctions) (now marks) ⌝ }
     requires { ⌜ (length (now input) ≤ 65536) × (length (now out) ≡ 65536) ⌝ }
 {
     let mut next = 0;
@@ -62,10 +57,6 @@ fn print_replies(
             out,
             junctions,
             marks,
-            near_times,
-            near_energies,
-            far_times,
-            far_energies,
         );
         let used = filled.used;
         io::write_all(output, &out[0..used]);
@@ -83,31 +74,14 @@ fn answer_input(
     starts: &mut [u32; 1024],
     heads: &mut [u32; 1024],
     nexts: &mut [u32; 8192],
-    near_times: &mut [u32; 4096],
-    near_energies: &mut [u32; 4096],
-    far_times: &mut [u32; 4096],
-    far_energies: &mut [u32; 4096],
 )
     requires { ⌜ (length (now depths) ≡ 1024) × (length (now starts) ≡ 1024) × (length (now heads) ≡ 1024) × (length (now nexts) ≡ 8192) ⌝ }
-    requires { ⌜ ListRoom (now «near_times») (now «near_energies») × ListRoom (now «far_times») (now «far_energies») ⌝ }
 {
     let mut junctions: [u32; 1024] = [0; 1024];
     let mut marks: [u8; 1024] = [0; 1024];
     let mut text = io::large_buffer();
     let mut out = io::large_buffer();
-    let begun = begin(
-        net,
-        labels,
-        depths,
-        starts,
-        heads,
-        nexts,
-        near_times,
-        near_energies,
-        far_times,
-        far_energies,
-        &mut out,
-    );
+    let begun = begin(net, labels, depths, starts, heads, nexts, &mut out);
     let used = begun.used;
     io::write_all(output, &out[0..used]);
     if begun.number != 0 {
@@ -126,10 +100,6 @@ fn answer_input(
         &mut out,
         &mut junctions,
         &mut marks,
-        near_times,
-        near_energies,
-        far_times,
-        far_energies,
     );
 }
 
@@ -139,10 +109,6 @@ pub fn run(net_path: &[u8], labels_path: &[u8], input: i32, output: i32) {
     let mut starts: [u32; 1024] = [0; 1024];
     let mut heads: [u32; 1024] = [0; 1024];
     let mut nexts: [u32; 8192] = [0; 8192];
-    let mut near_times: [u32; 4096] = [0; 4096];
-    let mut near_energies: [u32; 4096] = [0; 4096];
-    let mut far_times: [u32; 4096] = [0; 4096];
-    let mut far_energies: [u32; 4096] = [0; 4096];
     let mut net = io::large_buffer();
     let mut list_bytes = io::large_buffer();
     let net_length = read_file(net_path, &mut net);
@@ -156,9 +122,5 @@ pub fn run(net_path: &[u8], labels_path: &[u8], input: i32, output: i32) {
         &mut starts,
         &mut heads,
         &mut nexts,
-        &mut near_times,
-        &mut near_energies,
-        &mut far_times,
-        &mut far_energies,
     );
 }

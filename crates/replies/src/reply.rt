@@ -76,33 +76,14 @@ fn reply_query(
     at: usize,
     junctions: &mut [u32; 1024],
     marks: &mut [u8; 1024],
-    near_times: &mut [u32; 4096],
-    near_energies: &mut [u32; 4096],
-    far_times: &mut [u32; 4096],
-    far_energies: &mut [u32; 4096],
 ) -> usize
     requires { ⌜ Ready (now net) (now labels) (now depths) (now starts) (now heads) (now nexts) ⌝ }
-    requires { ⌜ Places (now junctions) (now marks) (now «near_times») (now «near_energies») (now «far_times») (now «far_energies») ⌝ }
+    requires { ⌜ Places (now junctions) (now marks) ⌝ }
     requires { ⌜ at + 11344 ≤ length (now out) ⌝ }
     ensures { λ r. ⌜ QueryReplied (now (net .entry)) s t limit (now (out .entry)) at (now (out .exit)) r ⌝ }
-    ensures { λ _.
-        ⌜ Places (now (junctions .exit)) (now (marks .exit)) (now («near_times» .exit)) (now («near_energies» .exit))
-        (now («far_times» .exit)) (now («far_energies» .exit)) ⌝ }
+    ensures { λ _. ⌜ Places (now (junctions .exit)) (now (marks .exit)) ⌝ }
 {
-    let found = answer(
-        net,
-        labels,
-        depths,
-        starts,
-        s,
-        t,
-        limit,
-        marks,
-        near_times,
-        near_energies,
-        far_times,
-        far_energies,
-    );
+    let found = answer(net, labels, depths, starts, s, t, limit);
     let Answer::Found(time, units) = found else {
         return put_refused_line(out, at, s, t, limit, code(found));
     };
@@ -140,19 +121,13 @@ pub fn reply(
     at: usize,
     junctions: &mut [u32; 1024],
     marks: &mut [u8; 1024],
-    near_times: &mut [u32; 4096],
-    near_energies: &mut [u32; 4096],
-    far_times: &mut [u32; 4096],
-    far_energies: &mut [u32; 4096],
 ) -> usize
     requires { ⌜ Ready (now net) (now labels) (now depths) (now starts) (now heads) (now nexts) ⌝ }
-    requires { ⌜ Places (now junctions) (now marks) (now «near_times») (now «near_energies») (now «far_times») (now «far_energies») ⌝ }
+    requires { ⌜ Places (now junctions) (now marks) ⌝ }
     requires { ⌜ (start ≤ end) × (end ≤ length (now input)) ⌝ }
     requires { ⌜ at + 11344 ≤ length (now out) ⌝ }
     ensures { λ r. ⌜ Replied (now (net .entry)) (lineOf (now (input .entry)) start end) (now (out .entry)) at (now (out .exit)) r ⌝ }
-    ensures { λ _.
-        ⌜ Places (now (junctions .exit)) (now (marks .exit)) (now («near_times» .exit)) (now («near_energies» .exit))
-        (now («far_times» .exit)) (now («far_energies» .exit)) ⌝ }
+    ensures { λ _. ⌜ Places (now (junctions .exit)) (now (marks .exit)) ⌝ }
 {
     let query = read_query(input, start, end);
     let QueryLine::Query(s, t, limit) = query else {
@@ -172,9 +147,5 @@ pub fn reply(
         at,
         junctions,
         marks,
-        near_times,
-        near_energies,
-        far_times,
-        far_energies,
     )
 }

@@ -10,7 +10,7 @@ ghost use lib.ListN.{length};
 ghost use Rattle.paths.specs.TradeOff.{IsTradeOff};
 ghost use Rattle.lists.specs.Entries.{Weight};
 ghost use Rattle.network.specs.NetworkFile.{junctionsOf, networkOf};
-ghost use Rattle.query.specs.Prepared.{Prepared, Lent};
+ghost use Rattle.query.specs.Prepared.{Prepared};
 ghost use Rattle.routes.specs.Written.{ListWritten};
 
 // More than the energy of any entry.
@@ -24,37 +24,16 @@ pub fn list_count(
     starts: &[u32; 1024],
     x: usize,
     y: usize,
-    marks: &mut [u8; 1024],
-    near_times: &mut [u32; 4096],
-    near_energies: &mut [u32; 4096],
-    far_times: &mut [u32; 4096],
-    far_energies: &mut [u32; 4096],
 ) -> u32
     requires { ⌜ Prepared (now net) (now labels) (now depths) (now starts) ⌝ }
     requires { ⌜ (x < junctionsOf (now labels)) × (y < junctionsOf (now labels)) ⌝ }
-    requires { ⌜ Lent (now marks) (now «near_times») (now «near_energies») (now «far_times») (now «far_energies») ⌝ }
     ensures { λ r. ⌜ ((l : List Weight) → IsTradeOff (networkOf (now (net .entry))) x y l → r ≡ length l) ⌝ }
-    ensures { λ _.
-        ⌜ Lent (now (marks .exit)) (now («near_times» .exit)) (now («near_energies» .exit)) (now («far_times» .exit)) (now («far_energies» .exit)) ⌝ }
 {
     let mut count: u32 = 0;
     let mut bound: u32 = ABOVE_ALL;
     while bound > 0 {
         let limit = Energy(bound - 1);
-        match best(
-            net,
-            labels,
-            depths,
-            starts,
-            x,
-            y,
-            limit,
-            marks,
-            near_times,
-            near_energies,
-            far_times,
-            far_energies,
-        ) {
+        match best(net, labels, depths, starts, x, y, limit) {
             Answer::Found(_, units) => {
                 count += 1;
                 bound = units.0;
@@ -78,39 +57,18 @@ pub fn list_fill(
     count: u32,
     times: &mut [u32],
     energies: &mut [u32],
-    marks: &mut [u8; 1024],
-    near_times: &mut [u32; 4096],
-    near_energies: &mut [u32; 4096],
-    far_times: &mut [u32; 4096],
-    far_energies: &mut [u32; 4096],
 )
     requires { ⌜ Prepared (now net) (now labels) (now depths) (now starts) ⌝ }
     requires { ⌜ (x < junctionsOf (now labels)) × (y < junctionsOf (now labels)) ⌝ }
     requires { ⌜ ((l : List Weight) → IsTradeOff (networkOf (now net)) x y l → count ≡ length l) ⌝ }
     requires { ⌜ (count ≤ length (now times)) × (count ≤ length (now energies)) ⌝ }
-    requires { ⌜ Lent (now marks) (now «near_times») (now «near_energies») (now «far_times») (now «far_energies») ⌝ }
     ensures { λ _. ⌜ ListWritten (now (net .entry)) x y (now (times .entry)) (now (energies .entry)) count (now (times .exit)) (now (energies .exit)) ⌝ }
-    ensures { λ _.
-        ⌜ Lent (now (marks .exit)) (now («near_times» .exit)) (now («near_energies» .exit)) (now («far_times» .exit)) (now («far_energies» .exit)) ⌝ }
 {
     let mut place = count as usize;
     let mut below: u32 = ABOVE_ALL;
     while place > 0 {
         let limit = Energy(below - 1);
-        match best(
-            net,
-            labels,
-            depths,
-            starts,
-            x,
-            y,
-            limit,
-            marks,
-            near_times,
-            near_energies,
-            far_times,
-            far_energies,
-        ) {
+        match best(net, labels, depths, starts, x, y, limit) {
             Answer::Found(time, units) => {
                 place -= 1;
                 times[place] = time.0;

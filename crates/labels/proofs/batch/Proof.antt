@@ -1,6 +1,6 @@
 -- `labels::batch` is right: each way through it is one law of `BatchWays`.
 use borrow.Author.Needs.{needs}
-use Rattle.labels.proofs.Accepted.{ready-for-queries, lists-lent}
+use Rattle.labels.proofs.Accepted.{ready-for-queries}
 use Rattle.labels.proofs.BatchWays.{done-no-triples, done-too-many, done-other-places, done-refused, done-answered, batch-triples}
 use Rattle.labels.proofs.batch.Statement.{statement}
 use Rattle.labels.proofs.batch.Tie as tie
@@ -22,8 +22,8 @@ returns-4 c = search (done-refused)
 
 answer-all-requires : tie.Need-answer-all-requires
 answer-all-requires c κs =
-    let passed = c .before .before .before .before .before .before .before .before in
-    (ready-for-queries (passed .before .accept .ensures .0) (passed .if4 .left), (search (batch-triples), search (lists-lent, needs)))
+    let passed = c .before .before .before in
+    (ready-for-queries (passed .before .accept .ensures) (passed .if4 .left), search (batch-triples))
 
 same-length : tie.Need-same-length
 same-length c = search needs
@@ -31,9 +31,9 @@ same-length c = search needs
 returns-5 : tie.Need-returns-5
 returns-5 c =
     let answered = c .before .before in
-    let passed = answered .before .before .before .before .before .before .before .before .before in
-    let shaped = passed .before .before .before .before .before .before .before .before .before .before in
-    done-answered (shaped .before .before .if1 .left) (shaped .before .if2 .left) (shaped .if3 .left) (passed .before .accept .ensures .0) (passed .if4 .left) (answered .answer-all .ensures)
+    let passed = answered .before .before .before .before in
+    let shaped = passed .before .before .before .before .before .before in
+    done-answered (shaped .before .before .if1 .left) (shaped .before .if2 .left) (shaped .if3 .left) (passed .before .accept .ensures) (passed .if4 .left) (answered .answer-all .ensures)
 
 pub batch-spec : {M : Type 1} → statement M
 batch-spec =

@@ -1,6 +1,6 @@
 -- The check's number refuses; what follows the check is `labels::whole::write_list`.
 use borrow.Author.Needs.{needs}
-use Rattle.labels.proofs.Accepted.{check-passed, ready-for-queries, lists-lent}
+use Rattle.labels.proofs.Accepted.{check-passed, ready-for-queries}
 use Rattle.labels.proofs.ListWays.{list-refused}
 use Rattle.labels.proofs.list.Statement.{statement}
 use Rattle.labels.proofs.list.Tie as tie
@@ -13,9 +13,9 @@ returns c = search (list-refused)
 
 write-list-requires : tie.Need-write-list-requires
 write-list-requires c κs =
-    let passed = c .before .before .before .before .before .before .before .before .before in
-    let accepting = passed .before .accept .ensures .0 in
-    (check-passed accepting (passed .if1 .left), (ready-for-queries accepting (passed .if1 .left), search (lists-lent, needs)))
+    let passed = c .before .before .before .before in
+    let accepting = passed .before .accept .ensures in
+    (check-passed accepting (passed .if1 .left), ready-for-queries accepting (passed .if1 .left))
 
 same-length : tie.Need-same-length
 same-length c = search needs

@@ -1,5 +1,5 @@
 -- The check's number refuses; what follows the check is `labels::routing::answer_route`.
-use Rattle.labels.proofs.Accepted.{check-passed, ready-for-queries, lists-lent}
+use Rattle.labels.proofs.Accepted.{check-passed, ready-for-queries}
 use Rattle.labels.proofs.RouteWays.{route-refused}
 use borrow.Author.Needs.{needs}
 use Rattle.labels.proofs.route.Statement.{statement}
@@ -13,10 +13,10 @@ returns c = search (route-refused)
 
 answer-route-requires : tie.Need-answer-route-requires
 answer-route-requires c κs =
-    let passed = c .before .before .before .before .before .before .before .before .before .before in
-    let accepting = passed .before .accept .ensures .0 in
+    let passed = c .before .before .before .before .before .before in
+    let accepting = passed .before .accept .ensures in
     let none = passed .if1 .left in
-    (check-passed accepting none, (ready-for-queries accepting none, (accepting .tables none .grouped, search (lists-lent, needs))))
+    (check-passed accepting none, (ready-for-queries accepting none, (accepting .tables none .grouped, search needs)))
 
 same-length : tie.Need-same-length
 same-length c = search needs

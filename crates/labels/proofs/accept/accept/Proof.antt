@@ -20,7 +20,7 @@ group-roads-requires : tie.Need-group-roads-requires
 group-roads-requires c κs = search (network-passes)
 
 exact-requires : tie.Need-exact-requires
-exact-requires c κs = (search (form-passes), (search (tables-filled), search needs))
+exact-requires c κs = (search (form-passes), search (tables-filled))
 
 returns-3 : tie.Need-returns-3
 returns-3 c = search (all-right)

@@ -1,7 +1,6 @@
 -- `labels::triples::answer_all` answers triple after triple: each turn is `one-answered`.
 use borrow.Author.Needs.{needs}
 use Prim.Native.Nat.{_≤_, _-_}
-use Rattle.query.specs.Prepared.{Lent}
 use Rattle.labels.specs.Working.{AnsweredTo, Triples}
 use Rattle.labels.proofs.BatchSteps.{none-answered, one-answered, all-answered}
 use native.Mathlib.Omega.{arith}
@@ -10,15 +9,15 @@ use Rattle.labels.proofs.triples.answer_all.Statement.{statement}
 use Rattle.labels.proofs.triples.answer_all.Tie as tie
 
 abbrev Inv-loop : tie.InvT-loop
-Inv-loop net labels depths starts queries count answers₀ marks₀ near-times₀ near-energies₀ far-times₀ far-energies₀ i₀ answers marks near-times near-energies far-times far-energies i =
-    (i ≤ count) × Triples queries answers₀ count × AnsweredTo net queries answers₀ answers i × Lent marks near-times near-energies far-times far-energies
+Inv-loop net labels depths starts queries count answers₀ i₀ answers i =
+    (i ≤ count) × Triples queries answers₀ count × AnsweredTo net queries answers₀ answers i
 
 abbrev μ-loop : tie.MeasureT-loop
-μ-loop net labels depths starts queries count answers₀ marks₀ near-times₀ near-energies₀ far-times₀ far-energies₀ i₀ answers marks near-times near-energies far-times far-energies i =
+μ-loop net labels depths starts queries count answers₀ i₀ answers i =
     count - i
 
 loop-holds : tie.Need-loop-holds Inv-loop μ-loop
-loop-holds c = (omega arith, search needs, none-answered, search needs)
+loop-holds c = (omega arith, search needs, none-answered)
 
 mul-at : tie.Need-mul-at Inv-loop μ-loop
 mul-at c = search needs
@@ -61,11 +60,10 @@ loop-less c = search needs
 
 loop-again : tie.Need-loop-again Inv-loop μ-loop
 loop-again c =
-    let held = c .before .before .before .before .before .before .before .before .before .before .before .before .before .before .loop .inv in (
+    let held = c .before .before .before .before .before .before .before .before .before .loop .inv in (
       omega arith,
       held .1,
-      one-answered (held .1) (omega arith) refl (held .2) (c .before .before .before .before .answer .ensures .0) (c .before .before .put-answer .ensures),
-      search needs,
+      one-answered (held .1) (omega arith) refl (held .2) (c .before .before .before .before .answer .ensures) (c .before .before .put-answer .ensures),
     )
 
 same-length : tie.Need-same-length Inv-loop μ-loop

@@ -22,10 +22,10 @@ returns-2 c = search (list-no-room)
 
 list-fill-requires : tie.Need-list-fill-requires
 list-fill-requires c κs =
-    let room = c .before .before .before .before .before .before .before in
+    let room = c .before .before in
     let counted = room .before .before .before in
-    let p = counted .before .before .before .before .before .before .before .before .before .before .pre in
-    (p .1 .0, (p .1 .1 .0, (counted .list-count .ensures .0, ((omega arith, omega arith), counted .list-count .ensures .1))))
+    let p = counted .before .before .before .before .before .pre in
+    (p .1 .0, (p .1 .1, (counted .list-count .ensures, (omega arith, omega arith))))
 
 same-length : tie.Need-same-length
 same-length c = search needs
@@ -36,10 +36,10 @@ same-length-2 c = search needs
 returns-3 : tie.Need-returns-3
 returns-3 c =
     let written = c .before .before .before .before in
-    let room = written .before .before .before .before .before .before .before .before in
+    let room = written .before .before .before in
     let counted = room .before .before .before in
-    let p = counted .before .before .before .before .before .before .before .before .before .before .pre in
-    list-listed (p .0) (p .1 .0) (p .1 .1 .0 .0) (p .1 .1 .0 .1) (counted .list-count .ensures .0) (room .before .before .if1 .left) (room .before .shorter .ensures) (room .if2 .left) (written .list-fill .ensures .0)
+    let p = counted .before .before .before .before .before .pre in
+    list-listed (p .0) (p .1 .0) (p .1 .1 .0) (p .1 .1 .1) (counted .list-count .ensures) (room .before .before .if1 .left) (room .before .shorter .ensures) (room .if2 .left) (written .list-fill .ensures)
 
 pub list-on-map-spec : {M : Type 1} → statement M
 list-on-map-spec =

@@ -16,10 +16,10 @@ returns-2 c = search (list-finish-off)
 
 list-on-map-requires : tie.Need-list-on-map-requires
 list-on-map-requires c κs =
-    let passed = c .before .before .before .before .before .before .before in
+    let passed = c .before .before in
     let read = passed .before .before .u16-at .ensures .is in
     let p = passed .before .before .before .before .before .before .before .pre in
-    (p .0, (p .1 .0, ((omega (arith, passed .before .if1 .left, read, p .1 .0 .beside .one-map), omega (arith, passed .if2 .left, read, p .1 .0 .beside .one-map)), p .1 .1)))
+    (p .0, (p .1, (omega (arith, passed .before .if1 .left, read, p .1 .beside .one-map), omega (arith, passed .if2 .left, read, p .1 .beside .one-map))))
 
 same-length : tie.Need-same-length
 same-length c = search needs

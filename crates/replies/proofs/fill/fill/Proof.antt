@@ -9,11 +9,11 @@ use Rattle.replies.proofs.fill.fill.Statement.{statement}
 use Rattle.replies.proofs.fill.fill.Tie as tie
 
 abbrev Inv-loop : tie.InvT-loop
-Inv-loop net labels depths starts heads nexts input from out₀ junctions₀ marks₀ near-times₀ near-energies₀ far-times₀ far-energies₀ next₀ used₀ out junctions marks near-times near-energies far-times far-energies next used =
-    Places junctions marks near-times near-energies far-times far-energies × Filling net input from out next used
+Inv-loop net labels depths starts heads nexts input from out₀ junctions₀ marks₀ next₀ used₀ out junctions marks next used =
+    Places junctions marks × Filling net input from out next used
 
 abbrev μ-loop : tie.MeasureT-loop
-μ-loop net labels depths starts heads nexts input from out₀ junctions₀ marks₀ near-times₀ near-energies₀ far-times₀ far-energies₀ next₀ used₀ out junctions marks near-times near-energies far-times far-energies next used =
+μ-loop net labels depths starts heads nexts input from out₀ junctions₀ marks₀ next₀ used₀ out junctions marks next used =
     length input - next
 
 loop-holds : tie.Need-loop-holds Inv-loop μ-loop
@@ -30,16 +30,16 @@ line-end-requires c κs = search needs
 
 reply-requires : tie.Need-reply-requires Inv-loop μ-loop
 reply-requires c κs =
-    let ends = c .before .before .before .before .before .before .before .line-end .ensures in
-    let held = c .before .before .before .before .before .before .before .before .before .before .loop .inv in
+    let ends = c .before .before .before .line-end .ensures in
+    let held = c .before .before .before .before .before .before .loop .inv in
     (search needs, (held .0, ((ends .forward, ends .inside), omega (arith, held .1 .room))))
 
 add-next : tie.Need-add-next Inv-loop μ-loop
 add-next c =
     omega (
       arith,
-      c .before .before .before .before .before .before .before .before .before .before .line-end .ensures .inside,
-      c .before .before .before .before .before .before .before .before .before .before .before .before .before .before .before .before .before .before .pre .1 .1 .0,
+      c .before .before .before .before .before .before .line-end .ensures .inside,
+      c .before .before .before .before .before .before .before .before .before .before .before .before .before .before .pre .1 .1 .0,
     )
 
 loop-less : tie.Need-loop-less Inv-loop μ-loop

@@ -54,10 +54,10 @@ slice-aggregate-print-replies c = search needs
 
 print-replies-requires : tie.Need-print-replies-requires
 print-replies-requires c κs =
-    let refusals = c .before .before .before .before .before .before .before .before .before .before .before .before .before .before .before .before in
+    let refusals = c .before .before .before .before .before .before .before .before .before .before .before .before in
     let begun = refusals .before .before .before .before .before .before .begin .ensures in (
-      ready (begun .0 .accepting) (refusals .if1 .left),
-      (places-lent (length-replicate {A = ℕ} 1024 0) (length-replicate {A = ℕ} 1024 0) (begun .1), (simp length-take (omega arith), begun .0 .places)),
+      ready (begun .accepting) (refusals .if1 .left),
+      (places-lent (length-replicate {A = ℕ} 1024 0) (length-replicate {A = ℕ} 1024 0), (simp length-take (omega arith), begun .places)),
     )
 
 returns-2 : tie.Need-returns-2

@@ -9,11 +9,11 @@ use Rattle.replies.proofs.program.print_replies.Statement.{statement}
 use Rattle.replies.proofs.program.print_replies.Tie as tie
 
 abbrev Inv-loop : tie.InvT-loop
-Inv-loop net labels depths starts heads nexts input output out₀ junctions₀ marks₀ near-times₀ near-energies₀ far-times₀ far-energies₀ next₀ out junctions marks near-times near-energies far-times far-energies next =
-    Places junctions marks near-times near-energies far-times far-energies × (length out ≡ 65536)
+Inv-loop net labels depths starts heads nexts input output out₀ junctions₀ marks₀ next₀ out junctions marks next =
+    Places junctions marks × (length out ≡ 65536)
 
 abbrev μ-loop : tie.MeasureT-loop
-μ-loop net labels depths starts heads nexts input output out₀ junctions₀ marks₀ near-times₀ near-energies₀ far-times₀ far-energies₀ next₀ out junctions marks near-times near-energies far-times far-energies next =
+μ-loop net labels depths starts heads nexts input output out₀ junctions₀ marks₀ next₀ out junctions marks next =
     length input - next
 
 loop-holds : tie.Need-loop-holds Inv-loop μ-loop
@@ -21,8 +21,8 @@ loop-holds c = search needs
 
 fill-requires : tie.Need-fill-requires Inv-loop μ-loop
 fill-requires c κs =
-    let held = c .before .before .before .before .before .before .before .before .before .before .before .before .before .pre in
-    let kept = c .before .before .before .before .before .before .before .before .loop .inv in
+    let held = c .before .before .before .before .before .before .before .before .before .pre in
+    let kept = c .before .before .before .before .loop .inv in
     (held .0, (kept .0, (held .1 .1 .0, kept .1)))
 
 sub-write-all : tie.Need-sub-write-all Inv-loop μ-loop
@@ -39,7 +39,7 @@ write-all-requires c κs = search needs
 
 loop-less : tie.Need-loop-less Inv-loop μ-loop
 loop-less c =
-    omega (arith, c .before .before .before .before .before .fill .ensures .0 .onward (c .before .before .before .before .before .before .before .before .before .before .before .before .before .loop-test .taken))
+    omega (arith, c .before .before .before .before .before .fill .ensures .0 .onward (c .before .before .before .before .before .before .before .before .before .loop-test .taken))
 
 loop-again : tie.Need-loop-again Inv-loop μ-loop
 loop-again c = search needs

@@ -37,7 +37,7 @@ returns c = (
 
 reply-query-requires : tie.Need-reply-query-requires
 reply-query-requires c κs =
-    let held = c .before .before .before .before .before .before .before .before .before .before .before .before .before .before .before .pre in
+    let held = c .before .before .before .before .before .before .before .before .before .before .before .pre in
     (held .0, (held .1 .0, held .1 .1 .1))
 
 same-length-2 : tie.Need-same-length-2

@@ -29,7 +29,7 @@ returns : tie.Need-returns
 returns c = (
   ⊎-elim (λ w. absurd (found-key (rw (w .2) at (c .before .before .before .before .before .match .keys2))))
       (λ w.
-      refusal-replied (c .before .before .before .before .before .before .answer .ensures .0) w (c .before .before .before .code .ensures)
+      refusal-replied (c .before .before .before .before .before .before .answer .ensures) w (c .before .before .before .code .ensures)
       (c .before .before .put-refused-line .ensures))
       (pair-or-zeros (c .before .before .before .before .before .before .answer .result)),
   search needs,
@@ -42,8 +42,8 @@ returns c = (
 put-found-requires : tie.Need-put-found-requires
 put-found-requires c κs =
     let answered = c .before .before .before .before .before .before .answer .ensures in
-    let held = c .before .before .before .before .before .before .before .before .before .before .before .before .before .before .before .pre in
-    (held .0, (found-zero (c .before .before .before .before .found .given .1) (answered .0), ((held .1 .0 .junctions-places, answered .1 .marks-places), held .1 .1)))
+    let held = c .before .before .before .before .before .before .before .before .before .before .pre in
+    (held .0, (found-zero (c .before .before .before .before .found .given .1) answered, ((held .1 .0 .junctions-places, held .1 .0 .marks-places), held .1 .1)))
 
 same-length-2 : tie.Need-same-length-2
 same-length-2 c = search needs
