@@ -1,6 +1,8 @@
 -- Why the queries answer what they are to answer. Read in this order.
-pub mod AnswersFrom
-pub mod LoadedLists
+pub mod ListPlaces
+pub mod BestSums
+pub mod Rows
 pub mod MarkedSums
+pub mod ClimbLaws
 pub mod WholeAnswers
 pub mod AnswersUnique

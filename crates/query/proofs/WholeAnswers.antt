@@ -1,9 +1,9 @@
--- Which sets of pairs answer a query. In this order: a set that stands for all paths; one list; the marked sums;
--- where two branches meet; the answers of a query.
-use mathlib.Core.Path.{_≡_, refl, sym, ap, subst}
+-- Which sets of pairs answer a query. In this order: a set that stands for all paths; one list; the marked sums; where two branches
+-- meet; the sums at the common ancestors; which lists tell; the answers of a query.
+use mathlib.Core.Path.{_≡_, refl, sym, ap, ap₂, _∙_, subst}
 use mathlib.Core.Logic.{inl, inr, ⊎-elim}
 use mathlib.Core.List.{List}
-use Prim.Native.Nat.{ℕ, suc, _-_, _<_}
+use Prim.Native.Nat.{ℕ, suc, _+_, _-_, _≤_, _<_}
 use native.Mathlib.Omega.{arith}
 use Rattle.paths.specs.Weights.{weights, energy, pair}
 use Rattle.paths.specs.Network.{Walk, weight}
@@ -17,28 +17,36 @@ use Rattle.paths.proofs.Covering.{walk-covered}
 use Rattle.paths.proofs.Answers.{alone-best}
 use Rattle.paths.proofs.TwoWay.{tradeOff-back}
 use Rattle.paths.proofs.Forest.{ancestor-then-above, deepest-unique, above-irrefl}
-use Rattle.paths.proofs.Crossing.{hoplinks-cut, apart-without-common}
+use Rattle.paths.proofs.Crossing.{hoplinks-cut, common-ancestors-cut, apart-without-common}
 use Rattle.paths.proofs.CutSums.{ListsAcross, walk-has-sum, sum-has-walk}
 use Rattle.lists.specs.Entries.{Weight}
 use Rattle.network.specs.NetworkFile.{networkOf, junctionsOf}
-use Rattle.forest.specs.LabelFile.{parentsOf}
+use Rattle.forest.specs.LabelFile.{parentsOf, countAt}
 use Rattle.forest.specs.Forest.{depthOf, ancestorOf}
-use Rattle.stored.specs.Stored.{listAt, stored}
+use Rattle.stored.specs.Stored.{listsBefore, placeOf, listPlace, listAt, stored}
 use Rattle.forest.specs.Fits.{ParentsFit}
-use Rattle.stored.specs.Scanned.{FoundList}
+use Rattle.stored.specs.Formed.{Formed, ListFits}
+use Rattle.stored.specs.Scanned.{further}
+use Rattle.stored.proofs.Tabulate.{member-stands, tabulate-member}
+use Rattle.stored.proofs.Places.{further-place}
 use Rattle.forest.proofs.Chains.{climbed}
-use Rattle.forest.proofs.Forest.{AncestorAt, ancestor-at, above-shallower}
-use Rattle.agree.proofs.Exactness.{roads-two-way, parents-forest, roads-joined}
+use Rattle.forest.proofs.Forest.{AncestorAt, ancestor-at, ancestor-is-up, above-shallower}
+use Rattle.agree.proofs.Exactness.{below-on-map, stored-fits, roads-two-way, parents-forest, roads-joined}
 use Rattle.hoplinks.specs.declared.Meeting.{Meeting}
 use Rattle.hoplinks.specs.declared.Meeting.the-variants.{At, Nowhere}
 use Rattle.hoplinks.specs.Meeting.{MeetsAt, Meets, HopMarks}
 use Rattle.query.specs.declared.Answer.{Answer}
+use Rattle.query.specs.declared.Between.{Between}
+use Rattle.query.specs.declared.Between.the-variants.{Nothing, List as OneList, Lists as TwoLists}
 use Rattle.query.specs.Prepared.{Prepared}
 use Rattle.query.specs.Answers.{numberOf, timeOf, energyOf, Answers}
 use Rattle.query.specs.Answers as whole
 use Rattle.query.specs.AnswerFrom.{EntryOf, AnswerFrom, found, over-limit, not-connected}
 use Rattle.query.specs.Levels.{behind, MarkedSum, Branches}
-use Rattle.query.proofs.MarkedSums.{level-place}
+use Rattle.query.specs.Between.{ListBetween, ListsBetween, Leads}
+use Rattle.query.specs.Sums.{SumAt, SumIn, Row, RowFits}
+use Rattle.query.proofs.ListPlaces.{entry}
+use Rattle.query.proofs.MarkedSums.{level-fits, level-place}
 
 -- ---- A set that stands for all paths
 
@@ -216,10 +224,150 @@ module _ {s : List ℕ} {x y l : ℕ} (meets : MeetsAt s x y l) where
         below-y = above-shallower s (fit .ends) (proper not-y (meets .deepest .common .of-finish));
       }
 
--- what was found is the stored list
-pub found-stored : {s : List ℕ} {v u at C : ℕ} {r : Answer} → FoundList s v u at → AnswerFrom (EntryOf (listAt s at)) C r → AnswerFrom (EntryOf (stored s v u)) C r
-unfolding stored
-found-stored {s} found-list answer = rw (found-list .place) at answer
+-- ---- The sums at the common ancestors
+
+-- a sum of entries at two places, and back
+sum-at-places : {s : List ℕ} {near far i j : ℕ} {p : Weight} → SumAt s near far i j p → IsSum energy (listAt s near) (listAt s far) p
+sum-at-places {s} {near} {far} {i} {j} h =
+    record {
+      left = entry s near i;
+      right = entry s far j;
+      in-first = tabulate-member (entry s near) (countAt s near) {i = i} (h .in-near);
+      in-second = tabulate-member (entry s far) (countAt s far) {i = j} (h .in-far);
+      adds = sym (h .adds);
+    }
+
+places-of-sum :
+    {s : List ℕ} {Lists : ℕ → ℕ → Type 0} (near far : ℕ) {p : Weight} → Lists near far → IsSum energy (listAt s near) (listAt s far) p → SumIn s Lists p
+places-of-sum {s} near far {p} lists sum =
+    let one = member-stands (entry s near) (countAt s near) (sum .in-first) in
+    let two = member-stands (entry s far) (countAt s far) (sum .in-second) in
+    record {
+      near = near;
+      far = far;
+      i = one .place;
+      j = two .place;
+      lists = lists;
+      sum = record { in-near = one .below; in-far = two .below; adds = sym (sum .adds) ∙ ap₂ (weights energy ._⊕_) (one .is) (two .is) };
+    }
+
+-- the list k behind the one for a level is k levels up
+row-place : (s : List ℕ) (v levels k : ℕ) → levels ≤ depthOf s v → k < levels → further s (behind s v levels) k ≡ behind s v (suc (levels - k - 1))
+row-place s v levels k deep h = further-place s (listsBefore s v + (depthOf s v - levels)) k ∙ ap (placeOf s) (omega arith)
+
+module _ {net s depths starts : List ℕ} (prepared : Prepared net s depths starts) {x y near far levels : ℕ} (two : ListsBetween s x y near far levels) where
+  fit : ParentsFit s
+  fit = prepared .beside .labels .parents
+
+  deep-x : levels ≤ depthOf s x
+  deep-x = omega (arith, two .deep, above-shallower s (fit .ends) (two .below-x))
+
+  deep-y : levels ≤ depthOf s y
+  deep-y = omega (arith, two .deep, above-shallower s (fit .ends) (two .below-y))
+
+  near-place : (k : ℕ) → k < levels → further s near k ≡ behind s x (suc (levels - k - 1))
+  near-place k h = rw (two .near-is) (row-place s x levels k deep-x h)
+
+  far-place : (k : ℕ) → k < levels → further s far k ≡ behind s y (suc (levels - k - 1))
+  far-place k h = rw (two .far-is) (row-place s y levels k deep-y h)
+
+  -- all the lists fit
+  pub row-fits : RowFits s near far levels
+  row-fits =
+      record {
+        few-bytes = prepared .beside .labels .few-bytes;
+        near-fits =
+            λ k h. rw (near-place k h) (level-fits (prepared .beside .labels) (below-on-map s (two .below-x)) (omega (arith, deep-x)));
+        far-fits =
+            λ k h. rw (far-place k h) (level-fits (prepared .beside .labels) (below-on-map s (two .below-y)) (omega (arith, deep-y)));
+      }
+
+  -- the common ancestors meet every path, and the lists for each are stored
+  common-lists : ListsAcross (networkOf net) (Common (parentsOf s) x y) x y (stored s x) (stored s y)
+  common-lists =
+      record {
+        cut = common-ancestors-cut (parentsOf s) (roads-joined (prepared .beside)) (parents-forest (prepared .beside)) x y;
+        to-right = λ {h} c. stored-up prepared (ancestor-then-above (two .meets .deepest .below-all h c) (two .below-x));
+        from-right = λ {h} c. stored-down prepared (ancestor-then-above (two .meets .deepest .below-all h c) (two .below-y));
+      }
+
+  -- a sum of the row is one at a common ancestor
+  row-real : {p : Weight} → SumIn s (Row s near far levels) p → WalkOf (networkOf net) x y p
+  row-real {p} h = sum-has-walk number-lawful common-lists common sum
+    where
+      up : ℕ
+      up = ancestorOf s (two .meeting) (h .lists .level)
+
+      steps : h .lists .level ≤ depthOf s (two .meeting)
+      steps = omega (arith, h .lists .below, two .deep)
+
+      common : Common (parentsOf s) x y up
+      common =
+          let above = ancestor-is-up fit (h .lists .level) (two .meeting) (two .meets .on-map) steps in
+          record { of-start = inr (ancestor-then-above above (two .below-x)); of-finish = inr (ancestor-then-above above (two .below-y)) }
+
+      deep : depthOf s up ≡ levels - h .lists .level - 1
+      deep = omega (arith, climbed fit (h .lists .level) (two .meeting) (two .meets .on-map) steps .depth, two .deep)
+
+      sum : IsSum energy (stored s x up) (stored s y up) p
+      sum =
+          rw (stored-level s x up deep, stored-level s y up deep)
+          (rw (h .lists .near-is ∙ near-place (h .lists .level) (h .lists .below), h .lists .far-is ∙ far-place (h .lists .level) (h .lists .below)) at (sum-at-places (h .sum)))
+
+  -- and every sum at a common ancestor is one of the row
+  row-all : {u : ℕ} {p : Weight} → Common (parentsOf s) x y u → IsSum energy (stored s x u) (stored s y u) p → SumIn s (Row s near far levels) p
+  row-all {u} {p} c sum = places-of-sum (behind s x (suc (depthOf s u))) (behind s y (suc (depthOf s u))) row listed
+    where
+      at : AncestorAt s u (two .meeting)
+      at = ancestor-at fit (two .meets .on-map) (two .meets .deepest .below-all u c)
+
+      level : ℕ
+      level = depthOf s (two .meeting) - depthOf s u
+
+      below : level < levels
+      below = omega (arith, two .deep)
+
+      back : depthOf s u ≡ levels - level - 1
+      back = omega (arith, two .deep, at .no-deeper)
+
+      row : Row s near far levels (behind s x (suc (depthOf s u))) (behind s y (suc (depthOf s u)))
+      row =
+          record {
+            level = level;
+            below = below;
+            near-is = rw (near-place level below) (ap (λ d. behind s x (suc d)) back);
+            far-is = rw (far-place level below) (ap (λ d. behind s y (suc d)) back);
+          }
+
+      listed : IsSum energy (listAt s (behind s x (suc (depthOf s u)))) (listAt s (behind s y (suc (depthOf s u)))) p
+      listed = rw (stored-level s x u refl, stored-level s y u refl) at sum
+
+  -- so the row stands for all paths
+  pub row-stands : StandsFor net x y (SumIn s (Row s near far levels))
+  row-stands =
+      record {
+        real = row-real;
+        below =
+            λ w.
+            let z = walk-has-sum number-lawful common-lists w in
+            record { one = z .total; among = row-all (z .inside) (z .sum); no-larger = z .no-larger };
+      }
+
+-- ---- Which lists tell
+
+module _ (s : List ℕ) (x y : ℕ) where
+  pub leads-nowhere : {r : Between} → r ≡ Nothing → Leads s x y r → (u : ℕ) → Common (parentsOf s) x y u → ⊥
+  leads-nowhere e h = subst (Leads s x y) e h
+
+  pub leads-list : {r : Between} {at : ℕ} → r ≡ OneList at → Leads s x y r → ListBetween s x y at
+  leads-list e h = subst (Leads s x y) e h
+
+  pub leads-lists : {r : Between} {near far levels : ℕ} → r ≡ TwoLists near far levels → Leads s x y r → ListsBetween s x y near far levels
+  leads-lists e h = subst (Leads s x y) e h
+
+-- the list between two junctions fits
+pub list-between-fits : {s : List ℕ} {x y at : ℕ} → Formed s → ListBetween s x y at → ListFits s at
+list-between-fits formed one = ⊎-elim (λ h. rw (h .1) (stored-fits formed (h .0))) (λ h. rw (h .1) (stored-fits formed (h .0))) (one .either)
 
 -- ---- The answers of a query
 
@@ -242,15 +390,18 @@ module _ {net s depths starts : List ℕ} (prepared : Prepared net s depths star
 
   module _ {C : ℕ} {r : Answer} where
     -- a junction and one above it, either way round
-    pub answer-up : Above (parentsOf s) y x → AnswerFrom (EntryOf (stored s x y)) C r → Answers net x y C (numberOf r) (timeOf r) (energyOf r)
-    answer-up above answer = stands-answer (tradeOff-stands (stored-up prepared above)) x-on-net y-on-net answer
+    pub answer-list : {at : ℕ} → ListBetween s x y at → AnswerFrom (EntryOf (listAt s at)) C r → Answers net x y C (numberOf r) (timeOf r) (energyOf r)
+    unfolding stored
+    answer-list {at} one answer = stands-answer (tradeOff-stands (⊎-elim up down (one .either))) x-on-net y-on-net answer
+      where
+        up : Above (parentsOf s) y x × (at ≡ listPlace s x y) → IsTradeOff (networkOf net) x y (listAt s at)
+        up h = rw (h .1) (stored-up prepared (h .0))
 
-    pub answer-down : Above (parentsOf s) x y → AnswerFrom (EntryOf (stored s y x)) C r → Answers net x y C (numberOf r) (timeOf r) (energyOf r)
-    answer-down above answer = stands-answer (tradeOff-stands (stored-down prepared above)) x-on-net y-on-net answer
+        down : Above (parentsOf s) x y × (at ≡ listPlace s y x) → IsTradeOff (networkOf net) x y (listAt s at)
+        down h = rw (h .1) (stored-down prepared (h .0))
 
     -- two branches
-    pub answer-across :
-        {l : ℕ} {marks : List ℕ} → MeetsAt s x y l → (l ≡ x → ⊥) → (l ≡ y → ⊥) → HopMarks net s l marks →
-        AnswerFrom (MarkedSum s marks x y 0 (suc (depthOf s l))) C r → Answers net x y C (numberOf r) (timeOf r) (energyOf r)
-    answer-across meets not-x not-y hops answer =
-        stands-answer (marked-stands prepared (proper not-x (meets .deepest .common .of-start)) (proper not-y (meets .deepest .common .of-finish)) (meets .deepest) (meets .on-map) hops) x-on-net y-on-net answer
+    pub answer-lists :
+        {near far levels : ℕ} → ListsBetween s x y near far levels → AnswerFrom (SumIn s (Row s near far levels)) C r →
+        Answers net x y C (numberOf r) (timeOf r) (energyOf r)
+    answer-lists two answer = stands-answer (row-stands prepared two) x-on-net y-on-net answer

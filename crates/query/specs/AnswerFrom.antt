@@ -28,15 +28,3 @@ pub data AnswerFrom (Has : Weight → Type 0) (C : ℕ) (r : Answer) : Type 0 wh
   found : numberOf r ≡ 0 → BestFrom Has C (pair (timeOf r) (energyOf r)) → AnswerFrom Has C r
   over-limit : r ≡ case.OverLimit → OverFrom Has C → AnswerFrom Has C r
   not-connected : r ≡ case.NotConnected → ((q : Weight) → Has q → ⊥) → AnswerFrom Has C r
-
--- Answer a is as good as b: a pair that is not later, any pair beside none, and "over the limit" beside "not connected"
-pub data AsGood (a b : Answer) : Type 0 where
-  not-later : numberOf a ≡ 0 → numberOf b ≡ 0 → NotLater energy (pair (timeOf a) (energyOf a)) (pair (timeOf b) (energyOf b)) → AsGood a b
-  only-pair : numberOf a ≡ 0 → (numberOf b ≡ 0 → ⊥) → AsGood a b
-  only-paths : numberOf a ≡ 23 → (numberOf b ≡ 0 → ⊥) → AsGood a b
-  beside-nothing : (numberOf b ≡ 0 → ⊥) → (numberOf b ≡ 23 → ⊥) → AsGood a b
-
--- r is the one of two answers that is as good as the other
-pub data Better (best candidate r : Answer) : Type 0 where
-  kept : AsGood best candidate → r ≡ best → Better best candidate r
-  taken : AsGood candidate best → r ≡ candidate → Better best candidate r

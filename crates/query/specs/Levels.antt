@@ -2,7 +2,7 @@
 use mathlib.Core.Path.{_≡_}
 use mathlib.Core.List.{List}
 use Prim.Native.Nat.{ℕ, suc, _+_, _-_, _≤_, _<_}
-use lib.ListN.{length, getD}
+use lib.ListN.{getD}
 use Rattle.paths.specs.Weights.{energy}
 use Rattle.paths.specs.TradeOff.{IsSum}
 use Rattle.lists.specs.Entries.{Weight}
@@ -33,10 +33,3 @@ pub record Branches (s : List ℕ) (x y l : ℕ) : Type 0 where
   pub l-on-map : l < junctionsOf s
   pub below-x : depthOf s l < depthOf s x
   pub below-y : depthOf s l < depthOf s y
-
--- Four slices with room for the longest list
-pub record Room (nearTimes nearEnergies farTimes farEnergies : List ℕ) : Type 0 where
-  pub near-times : 4095 ≤ length nearTimes
-  pub near-energies : 4095 ≤ length nearEnergies
-  pub far-times : 4095 ≤ length farTimes
-  pub far-energies : 4095 ≤ length farEnergies

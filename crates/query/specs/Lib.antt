@@ -4,3 +4,5 @@ pub mod Prepared
 pub mod Answers
 pub mod AnswerFrom
 pub mod Levels
+pub mod Between
+pub mod Sums

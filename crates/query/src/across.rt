@@ -1,173 +1,179 @@
-// The answer of two branches: the best sum of the two junctions' lists for the same ancestor, over all marked ancestors.
-use crate::Answer;
-use lists::Places;
-use lists::sums::best_sum;
-use lists::sums::sum_at;
+// The best sum of two junctions' lists for the same ancestor, over all common ancestors. Lists are read where they stand, and what is
+// known of the best bounds what is read.
+use crate::places::count_at;
+use crate::places::first_quick;
+use crate::places::fitting;
+use crate::places::fitting_from;
+use crate::places::too_long;
 use paths::energy::Energy;
+use paths::seconds::Seconds;
 use stored::place::Place;
-use stored::place::find_list;
-use stored::stored::load;
+use stored::stored::energy_at;
+use stored::stored::time_at;
 ghost use mathlib.Core.Path.{_≡_};
-ghost use Prim.Native.Nat.{suc, _<_};
-ghost use Rattle.paths.specs.Weights.{energy};
-ghost use Rattle.paths.specs.TradeOff.{IsSum};
-ghost use Rattle.lists.specs.Entries.{IsList, entries};
-ghost use Rattle.forest.specs.Forest.{depthOf};
-ghost use Rattle.forest.specs.Fits.{DepthsFilled};
-ghost use Rattle.stored.specs.Formed.{Formed, StartsFilled, ListFits};
-ghost use Rattle.query.specs.AnswerFrom.{AnswerFrom, Better};
-ghost use Rattle.query.specs.Levels.{LevelSum, MarkedSum, Branches, Room};
+ghost use mathlib.Core.Logic.{_⊎_};
+ghost use mathlib.Core.Bool.{true, false};
+ghost use Prim.Native.Nat.{_<_};
+ghost use Rattle.paths.specs.Weights.{energy, Sooner, NotLater};
+ghost use Rattle.forest.specs.LabelFile.{countAt};
+ghost use Rattle.stored.specs.Formed.{ListFits};
+ghost use Rattle.query.specs.Sums.{pairOf, SumIs, Only, Row, RowFits, Improves, Extends, WalkStart, WorthWalking};
 
-// The sooner of two pairs, equal times being decided by less energy; any pair before none, and "over the limit" before "not connected".
-fn better(best: Answer, candidate: Answer) -> Answer
-    ensures { λ r. ⌜ Better best candidate r ⌝ }
+// A sum of two entries and where it stands: entry i of the list at byte `near` and entry j of the list at byte `far`.
+pub struct Sum {
+    pub time: Seconds,
+    pub units: Energy,
+    pub near: usize,
+    pub far: usize,
+    pub i: usize,
+    pub j: usize,
+}
+
+// What is known of the best: the sum, and whether there is any, be it over the limit.
+pub struct Best {
+    pub connected: bool,
+    pub sum: Sum,
+}
+
+// The sum of entry i of the near list and entry j of the far list.
+pub fn sum_at(labels: &[u8], near: usize, far: usize, i: usize, j: usize) -> Sum
+    requires { ⌜ ListFits (now labels) near × ListFits (now labels) far ⌝ }
+    requires { ⌜ (i < countAt (now labels) near) × (j < countAt (now labels) far) ⌝ }
+    ensures { λ r. ⌜ SumIs (now (labels .entry)) near far i j r ⌝ }
 {
-    match best {
-        Answer::Found(time, units) => match candidate {
-            Answer::Found(other_time, other_units) => {
-                if other_time.below(time) {
-                    return candidate;
-                }
-                if time.below(other_time) {
-                    return best;
-                }
-                if other_units.below(units) {
-                    return candidate;
-                }
-                best
-            }
-            Answer::OverLimit => best,
-            Answer::NotConnected => best,
-            Answer::OffMap => best,
-        },
-        Answer::OverLimit => match candidate {
-            Answer::Found(_, _) => candidate,
-            Answer::OverLimit => best,
-            Answer::NotConnected => best,
-            Answer::OffMap => best,
-        },
-        Answer::NotConnected => candidate,
-        Answer::OffMap => candidate,
+    Sum {
+        time: time_at(labels, near, i).plus(time_at(labels, far, j)),
+        units: energy_at(labels, near, i).plus(energy_at(labels, far, j)),
+        near: near,
+        far: far,
+        i: i,
+        j: j,
     }
 }
 
-// The best sum of an entry of the first list and one of the second.
-fn of_sums(
-    times: &[u32],
-    energies: &[u32],
-    more_times: &[u32],
-    more_energies: &[u32],
-    limit: Energy,
-) -> Answer
-    requires { ⌜ IsList 2147483647 (now times) (now energies) ⌝ }
-    requires { ⌜ IsList 2147483647 (now «more_times») (now «more_energies») ⌝ }
+// Whether the candidate comes before the best as an answer: less time, or equal time and less energy.
+fn comes_before(candidate: Sum, best: Sum) -> bool
     ensures { λ r.
-        ⌜ AnswerFrom
-        (IsSum energy
-        (entries (now (times .entry)) (now (energies .entry)))
-        (entries (now («more_times» .entry)) (now («more_energies» .entry))))
-        (limit .0)
-        r ⌝ }
+        ⌜ (Sooner energy (pairOf candidate) (pairOf best) × (r ≡ true)) ⊎ (NotLater energy (pairOf best) (pairOf candidate) × (r ≡ false)) ⌝ }
 {
-    if times.len() == 0 {
-        return Answer::NotConnected;
+    if candidate.time.below(best.time) {
+        return true;
     }
-    if more_times.len() == 0 {
-        return Answer::NotConnected;
+    if best.time.below(candidate.time) {
+        return false;
     }
-    let places = best_sum(times, energies, more_times, more_energies, limit);
-    let Places::At(i, j) = places else {
-        return Answer::OverLimit;
-    };
-    let sum = sum_at(times, energies, more_times, more_energies, i, j);
-    let time = sum.time;
-    let units = sum.units;
-    Answer::Found(time, units)
+    candidate.units.below(best.units)
 }
 
-// The answer of one level: the best sum of the two lists there, if it is marked.
-fn at_level(
+// Up the near list from place `start` and down the far list from place `end`: as the near entry's energy rises, fewer far entries fit
+// beside it, and the last that fits is the quickest. The walk ends where even the quickest near entry is too slow beside that one.
+fn walk_from(
     labels: &[u8],
-    marks: &[u8; 1024],
-    level: usize,
-    near: Place,
-    far: Place,
+    near: usize,
+    far: usize,
+    start: usize,
+    end: usize,
     limit: Energy,
-    near_times: &mut [u32],
-    near_energies: &mut [u32],
-    far_times: &mut [u32],
-    far_energies: &mut [u32],
-) -> Answer
-    requires { ⌜ level < 1024 ⌝ }
-    requires { ⌜ ListFits (now labels) (near .at) ⌝ }
-    requires { ⌜ ListFits (now labels) (far .at) ⌝ }
-    requires { ⌜ Room (now «near_times») (now «near_energies») (now «far_times») (now «far_energies») ⌝ }
-    ensures { λ r. ⌜ AnswerFrom (LevelSum (now (labels .entry)) (now (marks .entry)) level (near .at) (far .at)) (limit .0) r ⌝ }
+    known: Sum,
+) -> Sum
+    requires { ⌜ ListFits (now labels) near × ListFits (now labels) far ⌝ }
+    requires { ⌜ 0 < countAt (now labels) near ⌝ }
+    requires { ⌜ WalkStart (now labels) near far (limit .0) start end known ⌝ }
+    ensures { λ r. ⌜ Improves (now (labels .entry)) (Only near far) (limit .0) known r ⌝ }
 {
-    if marks[level] != 1 {
-        return Answer::NotConnected;
+    let count = count_at(labels, near);
+    let quickest = time_at(labels, near, count - 1);
+    let mut best = known;
+    let mut j = end;
+    let mut i = start;
+    while i < count {
+        j = fitting_from(labels, far, energy_at(labels, near, i), limit, j);
+        if j == 0 {
+            return best;
+        }
+        if too_long(quickest.plus(time_at(labels, far, j - 1)), best.time) {
+            return best;
+        }
+        let candidate = sum_at(labels, near, far, i, j - 1);
+        if comes_before(candidate, best) {
+            best = candidate;
+        }
+        i += 1;
     }
-    let near_at = near.at;
-    let near_count = load(labels, near_at, near_times, near_energies);
-    let far_at = far.at;
-    let far_count = load(labels, far_at, far_times, far_energies);
-    of_sums(
-        &near_times[0..near_count],
-        &near_energies[0..near_count],
-        &far_times[0..far_count],
-        &far_energies[0..far_count],
-        limit,
-    )
+    best
 }
 
-fn wide(x: u32) -> usize
-    ensures { λ r. ⌜ r ≡ x ⌝ }
+// The walk from the first near entry that could be quick enough, and the last far entry that fits beside it.
+fn walk(labels: &[u8], near: usize, far: usize, limit: Energy, known: Sum) -> Sum
+    requires { ⌜ ListFits (now labels) near × ListFits (now labels) far ⌝ }
+    requires { ⌜ WorthWalking (now labels) near far known ⌝ }
+    ensures { λ r. ⌜ Improves (now (labels .entry)) (Only near far) (limit .0) known r ⌝ }
 {
-    x as usize
+    let quickest = time_at(labels, far, count_at(labels, far) - 1);
+    let start = first_quick(labels, near, quickest, known.time);
+    let end = fitting(labels, far, energy_at(labels, near, start), limit);
+    walk_from(labels, near, far, start, end, limit, known)
 }
 
-// From the lists for l up to those for the root: the lists of one junction stand in this order, so that each place moves on once.
+// One level, the bound first: no sum is within the limit if that of the least energies is not, and none is better than the known one
+// if that of the least times takes longer.
+fn at_level(labels: &[u8], near: usize, far: usize, limit: Energy, best: Best) -> Best
+    requires { ⌜ ListFits (now labels) near × ListFits (now labels) far ⌝ }
+    ensures { λ r. ⌜ Extends (now (labels .entry)) (Only near far) (limit .0) best r ⌝ }
+{
+    let near_count = count_at(labels, near);
+    if near_count == 0 {
+        return best;
+    }
+    let far_count = count_at(labels, far);
+    if far_count == 0 {
+        return best;
+    }
+    let known = best.sum;
+    let cheapest = sum_at(labels, near, far, 0, 0);
+    if limit.below(cheapest.units) {
+        return Best {
+            connected: true,
+            sum: known,
+        };
+    }
+    let quickest = sum_at(labels, near, far, near_count - 1, far_count - 1);
+    if too_long(quickest.time, known.time) {
+        return Best {
+            connected: true,
+            sum: known,
+        };
+    }
+    let sum = walk(labels, near, far, limit, known);
+    Best {
+        connected: true,
+        sum: sum,
+    }
+}
+
+// The lists at two bytes and those behind them, so many on each side: what is known of the best is taken further level by level.
 pub fn across(
     labels: &[u8],
-    depths: &[u32; 1024],
-    starts: &[u32; 1024],
-    x: usize,
-    y: usize,
-    l: usize,
+    near: usize,
+    far: usize,
+    levels: u32,
     limit: Energy,
-    marks: &[u8; 1024],
-    near_times: &mut [u32],
-    near_energies: &mut [u32],
-    far_times: &mut [u32],
-    far_energies: &mut [u32],
-) -> Answer
-    requires { ⌜ Formed (now labels) × DepthsFilled (now labels) (now depths) × StartsFilled (now labels) (now starts) ⌝ }
-    requires { ⌜ Branches (now labels) x y l ⌝ }
-    requires { ⌜ Room (now «near_times») (now «near_energies») (now «far_times») (now «far_energies») ⌝ }
-    ensures { λ r.
-        ⌜ AnswerFrom (MarkedSum (now (labels .entry)) (now (marks .entry)) x y 0 (suc (depthOf (now (labels .entry)) l))) (limit .0) r ⌝ }
+    known: Best,
+) -> Best
+    requires { ⌜ RowFits (now labels) near far levels ⌝ }
+    ensures { λ r. ⌜ Extends (now (labels .entry)) (Row (now (labels .entry)) near far levels) (limit .0) known r ⌝ }
 {
-    let mut near = find_list(labels, depths, starts, x, l);
-    let mut far = find_list(labels, depths, starts, y, l);
-    let mut best = Answer::NotConnected;
-    let mut left = wide(depths[l]) + 1;
-    while left > 0 {
-        left -= 1;
-        let candidate = at_level(
-            labels,
-            marks,
-            left,
-            near,
-            far,
-            limit,
-            near_times,
-            near_energies,
-            far_times,
-            far_energies,
-        );
-        best = better(best, candidate);
-        near = near.next(labels);
-        far = far.next(labels);
+    let mut near_place = Place { at: near };
+    let mut far_place = Place { at: far };
+    let mut best = known;
+    let mut done: u32 = 0;
+    while done < levels {
+        let near_at = near_place.at;
+        let far_at = far_place.at;
+        best = at_level(labels, near_at, far_at, limit, best);
+        near_place = near_place.next(labels);
+        far_place = far_place.next(labels);
+        done += 1;
     }
     best
 }

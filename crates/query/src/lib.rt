@@ -11,6 +11,16 @@ pub enum Answer {
     OverLimit,
 }
 
+// The lists that tell of the paths between two junctions: none; that of one junction for the other above it, at a byte; or those of
+// both for their common ancestors, from two bytes on, so many on each side.
+pub enum Between {
+    Nothing,
+    List(usize),
+    Lists(usize, usize, u32),
+}
+
 pub mod across;
+pub mod climbing;
 pub mod direct;
 pub mod limited;
+pub mod places;

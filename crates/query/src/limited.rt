@@ -1,48 +1,66 @@
 // The best answer for two junctions under a limit, from the labels alone.
 use crate::Answer;
+use crate::Between;
+use crate::across::Best;
+use crate::across::Sum;
 use crate::across::across;
+use crate::climbing::between;
 use crate::direct::from_list;
-use hoplinks::Meeting;
-use hoplinks::hoplinks::mark_hoplinks;
-use hoplinks::meet::deepest;
 use network::bytes::u16_at;
 use paths::energy::Energy;
 use paths::seconds::Seconds;
-use stored::place::find_list;
-ghost use Prim.Native.Nat.{_≤_, _<_};
-ghost use lib.ListN.{length};
-ghost use Rattle.paths.specs.Forest.{Above};
+ghost use Prim.Native.Nat.{_<_};
 ghost use Rattle.network.specs.NetworkFile.{junctionsOf};
-ghost use Rattle.forest.specs.LabelFile.{parentsOf};
-ghost use Rattle.stored.specs.Stored.{stored};
-ghost use Rattle.forest.specs.Fits.{DepthsFilled};
-ghost use Rattle.stored.specs.Formed.{Formed, StartsFilled};
-ghost use Rattle.query.specs.Prepared.{Prepared, Lent};
+ghost use Rattle.query.specs.Prepared.{Prepared};
 ghost use Rattle.query.specs.Answers.{numberOf, timeOf, energyOf, Answers};
-ghost use Rattle.query.specs.AnswerFrom.{EntryOf, AnswerFrom};
+ghost use Rattle.query.specs.AnswerFrom.{AnswerFrom};
+ghost use Rattle.query.specs.Sums.{SumIn, Row, RowFits, Unknown, Told};
 
-// The answer of the stored list of v and its proper ancestor u.
-fn to_ancestor(
-    labels: &[u8],
-    depths: &[u32; 1024],
-    starts: &[u32; 1024],
-    v: usize,
-    u: usize,
-    limit: Energy,
-    times: &mut [u32],
-    energies: &mut [u32],
-) -> Answer
-    requires { ⌜ Formed (now labels) × DepthsFilled (now labels) (now depths) × StartsFilled (now labels) (now starts) ⌝ }
-    requires { ⌜ (v < junctionsOf (now labels)) × (u < junctionsOf (now labels)) × Above (parentsOf (now labels)) u v ⌝ }
-    requires { ⌜ (4095 ≤ length (now times)) × (4095 ≤ length (now energies)) ⌝ }
-    ensures { λ r. ⌜ AnswerFrom (EntryOf (stored (now (labels .entry)) v u)) (limit .0) r ⌝ }
+// Later than any path, so that every sum comes before it.
+const NO_TIME: u32 = 4294967295;
+
+// What is known of the best before any list is read.
+pub fn unknown() -> Best
+    ensures { λ r. ⌜ Unknown r ⌝ }
 {
-    let place = find_list(labels, depths, starts, v, u);
-    let at = place.at;
-    from_list(labels, at, limit, times, energies)
+    Best {
+        connected: false,
+        sum: Sum {
+            time: Seconds(NO_TIME),
+            units: Energy(0),
+            near: 0,
+            far: 0,
+            i: 0,
+            j: 0,
+        },
+    }
 }
 
-// The answer for two junctions of the map. The lent places are scratch: nothing is cleared, and what they hold before tells nothing.
+// What is known of the best, as an answer.
+fn told(best: Best) -> Answer
+    ensures { λ r. ⌜ Told best r ⌝ }
+{
+    let sum = best.sum;
+    let time = sum.time;
+    let units = sum.units;
+    if !time.equals(Seconds(NO_TIME)) {
+        return Answer::Found(time, units);
+    }
+    if best.connected {
+        return Answer::OverLimit;
+    }
+    Answer::NotConnected
+}
+
+// The answer of the lists at two bytes and those behind them, so many on each side.
+fn from_lists(labels: &[u8], near: usize, far: usize, levels: u32, limit: Energy) -> Answer
+    requires { ⌜ RowFits (now labels) near far levels ⌝ }
+    ensures { λ r. ⌜ AnswerFrom (SumIn (now (labels .entry)) (Row (now (labels .entry)) near far levels)) (limit .0) r ⌝ }
+{
+    told(across(labels, near, far, levels, limit, unknown()))
+}
+
+// The answer for two junctions of the map.
 pub fn best(
     net: &[u8],
     labels: &[u8],
@@ -51,65 +69,20 @@ pub fn best(
     x: usize,
     y: usize,
     limit: Energy,
-    marks: &mut [u8; 1024],
-    near_times: &mut [u32; 4096],
-    near_energies: &mut [u32; 4096],
-    far_times: &mut [u32; 4096],
-    far_energies: &mut [u32; 4096],
 ) -> Answer
     requires { ⌜ Prepared (now net) (now labels) (now depths) (now starts) ⌝ }
     requires { ⌜ (x < junctionsOf (now labels)) × (y < junctionsOf (now labels)) ⌝ }
-    requires { ⌜ Lent (now marks) (now «near_times») (now «near_energies») (now «far_times») (now «far_energies») ⌝ }
     ensures { λ r. ⌜ Answers (now (net .entry)) x y (limit .0) (numberOf r) (timeOf r) (energyOf r) ⌝ }
-    ensures { λ _.
-        ⌜ Lent (now (marks .exit)) (now («near_times» .exit)) (now («near_energies» .exit)) (now («far_times» .exit)) (now («far_energies» .exit)) ⌝ }
 {
     if x == y {
         return Answer::Found(Seconds(0), Energy(0));
     }
-    let meeting = deepest(labels, depths, x, y);
-    let Meeting::At(l) = meeting else {
-        return Answer::NotConnected;
-    };
-    if l == x {
-        return to_ancestor(
-            labels,
-            depths,
-            starts,
-            y,
-            x,
-            limit,
-            near_times,
-            near_energies,
-        );
+    let lists = between(labels, depths, starts, x, y);
+    match lists {
+        Between::Nothing => Answer::NotConnected,
+        Between::List(at) => from_list(labels, at, limit),
+        Between::Lists(near, far, levels) => from_lists(labels, near, far, levels, limit),
     }
-    if l == y {
-        return to_ancestor(
-            labels,
-            depths,
-            starts,
-            x,
-            y,
-            limit,
-            near_times,
-            near_energies,
-        );
-    }
-    mark_hoplinks(net, labels, depths, l, marks);
-    across(
-        labels,
-        depths,
-        starts,
-        x,
-        y,
-        l,
-        limit,
-        marks,
-        near_times,
-        near_energies,
-        far_times,
-        far_energies,
-    )
 }
 
 // The answer for any two numbers: what is no junction is off the map.
@@ -121,17 +94,9 @@ pub fn answer(
     s: u32,
     t: u32,
     limit: u32,
-    marks: &mut [u8; 1024],
-    near_times: &mut [u32; 4096],
-    near_energies: &mut [u32; 4096],
-    far_times: &mut [u32; 4096],
-    far_energies: &mut [u32; 4096],
 ) -> Answer
     requires { ⌜ Prepared (now net) (now labels) (now depths) (now starts) ⌝ }
-    requires { ⌜ Lent (now marks) (now «near_times») (now «near_energies») (now «far_times») (now «far_energies») ⌝ }
     ensures { λ r. ⌜ Answers (now (net .entry)) s t limit (numberOf r) (timeOf r) (energyOf r) ⌝ }
-    ensures { λ _.
-        ⌜ Lent (now (marks .exit)) (now («near_times» .exit)) (now («near_energies» .exit)) (now («far_times» .exit)) (now («far_energies» .exit)) ⌝ }
 {
     let junctions = u16_at(net, 6);
     if s >= junctions {
@@ -148,10 +113,5 @@ pub fn answer(
         s as usize,
         t as usize,
         Energy(limit),
-        marks,
-        near_times,
-        near_energies,
-        far_times,
-        far_energies,
     )
 }

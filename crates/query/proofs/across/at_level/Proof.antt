@@ -1,107 +1,89 @@
--- Of a marked level both lists are loaded and their sums answer; one that is not marked has no sum.
+-- An empty list has no sum; the first entries have the least energies and the last ones the least times.
+use mathlib.Core.Path.{refl}
+use Rattle.query.proofs.BestSums.{level-near-empty, level-far-empty, level-over, level-slow, level-worth, level-walked}
 use borrow.Author.Needs.{needs}
-use Rattle.query.proofs.LoadedLists.{loaded-holds}
-use Rattle.query.proofs.MarkedSums.{level-unmarked, level-marked}
 use Rattle.query.proofs.across.at_level.Statement.{statement}
 use Rattle.query.proofs.across.at_level.Tie as tie
 
-element-copy-out-if1 : tie.Need-element-copy-out-if1
-element-copy-out-if1 c = search needs
+count-at-requires : tie.Need-count-at-requires
+count-at-requires c κs = search needs
 
 returns : tie.Need-returns
-returns c = level-unmarked (c .if1 .taken)
+returns c = level-near-empty (c .before .count-at .ensures) (c .if1 .taken)
 
-load-requires : tie.Need-load-requires
-load-requires c κs = search needs
-
-load-requires-2 : tie.Need-load-requires-2
-load-requires-2 c κs = search needs
-
-sub-of-sums : tie.Need-sub-of-sums
-sub-of-sums c = search needs
-
-part-of-sums-start : tie.Need-part-of-sums-start
-part-of-sums-start c = search needs
-
-part-of-sums-end : tie.Need-part-of-sums-end
-part-of-sums-end c = search needs
-
-sub-of-sums-2 : tie.Need-sub-of-sums-2
-sub-of-sums-2 c = search needs
-
-part-of-sums-start-2 : tie.Need-part-of-sums-start-2
-part-of-sums-start-2 c = search needs
-
-part-of-sums-end-2 : tie.Need-part-of-sums-end-2
-part-of-sums-end-2 c = search needs
-
-sub-of-sums-3 : tie.Need-sub-of-sums-3
-sub-of-sums-3 c = search needs
-
-part-of-sums-start-3 : tie.Need-part-of-sums-start-3
-part-of-sums-start-3 c = search needs
-
-part-of-sums-end-3 : tie.Need-part-of-sums-end-3
-part-of-sums-end-3 c = search needs
-
-sub-of-sums-4 : tie.Need-sub-of-sums-4
-sub-of-sums-4 c = search needs
-
-part-of-sums-start-4 : tie.Need-part-of-sums-start-4
-part-of-sums-start-4 c = search needs
-
-part-of-sums-end-4 : tie.Need-part-of-sums-end-4
-part-of-sums-end-4 c = search needs
-
-of-sums-requires : tie.Need-of-sums-requires
-of-sums-requires c κs =
-    let far = c .before .before .before .before .before .before .before .before .before .before .before .before in
-    let near = far .before .before .before .before .before .before .before in
-    let p = near .before .before .before .before .before .before .before .before .before .before .pre in
-    (loaded-holds (p .1 .0) (near .load .ensures) .right, loaded-holds (p .1 .1 .0) (far .load2 .ensures) .right)
-
-same-length : tie.Need-same-length
-same-length c = search needs
-
-same-length-2 : tie.Need-same-length-2
-same-length-2 c = search needs
-
-same-length-3 : tie.Need-same-length-3
-same-length-3 c = search needs
-
-same-length-4 : tie.Need-same-length-4
-same-length-4 c = search needs
+count-at-requires-2 : tie.Need-count-at-requires-2
+count-at-requires-2 c κs = search needs
 
 returns-2 : tie.Need-returns-2
-returns-2 c =
-    let far = c .before .before .before .before .before .before .before .before .before .before .before .before .before in
-    let near = far .before .before .before .before .before .before .before in
-    let p = near .before .before .before .before .before .before .before .before .before .before .pre in
-    level-marked (near .before .before .before .if1 .left) (loaded-holds (p .1 .0) (near .load .ensures)) (loaded-holds (p .1 .1 .0) (far .load2 .ensures)) (c .of-sums .ensures)
+returns-2 c = level-far-empty (c .before .before .before .count-at .ensures) (c .before .count-at2 .ensures) (c .if2 .taken)
+
+sum-at-requires : tie.Need-sum-at-requires
+sum-at-requires c κs = search needs
+
+below-requires : tie.Need-below-requires
+below-requires c κs = search needs
+
+returns-3 : tie.Need-returns-3
+returns-3 c =
+    let summed = c .before .before in
+    let some = summed .before .before in
+    let far = some .before in
+    let near = far .before .before in
+    let pre = near .before .before .pre in
+    level-over (near .count-at .ensures) (far .count-at2 .ensures) (far .before .if1 .left) (some .if2 .left) (pre .0) (pre .1) (summed .sum-at .ensures) (c .before .below .ensures) (c .if3 .taken) refl refl
+
+sub-sum-at : tie.Need-sub-sum-at
+sub-sum-at c = search needs
+
+sub-sum-at-2 : tie.Need-sub-sum-at-2
+sub-sum-at-2 c = search needs
+
+sum-at-requires-2 : tie.Need-sum-at-requires-2
+sum-at-requires-2 c κs = search needs
+
+too-long-requires : tie.Need-too-long-requires
+too-long-requires c κs = search needs
+
+returns-4 : tie.Need-returns-4
+returns-4 c =
+    let summed = c .before .before in
+    let some = summed .before .before .before .before .before in
+    let far = some .before in
+    let near = far .before .before in
+    let pre = near .before .before .pre in
+    level-slow (near .count-at .ensures) (far .count-at2 .ensures) (far .before .if1 .left) (some .if2 .left) (pre .0) (pre .1) (summed .sum-at2 .ensures) (c .before .too-long .ensures) (c .if4 .taken) refl refl
+
+walk-requires : tie.Need-walk-requires
+walk-requires c κs =
+    let summed = c .before .before in
+    let some = summed .before .before .before .before .before in
+    let far = some .before in
+    let near = far .before .before in
+    let pre = near .before .before .pre in
+    (pre, level-worth (near .count-at .ensures) (far .count-at2 .ensures) (far .before .if1 .left) (some .if2 .left) (pre .0) (pre .1) (summed .sum-at2 .ensures) (c .before .too-long .ensures) (c .if4 .left))
+
+returns-5 : tie.Need-returns-5
+returns-5 c =
+    let some = c .before .before .before .before .before .before .before .before in
+    let far = some .before in
+    let near = far .before .before in
+    level-walked (near .count-at .ensures) (far .count-at2 .ensures) (far .before .if1 .left) (some .if2 .left) refl (c .walk .ensures)
 
 pub at-level-spec : {M : Type 1} → statement M
 at-level-spec =
     tie.close
     (tie.spec
-    element-copy-out-if1
+    count-at-requires
     returns
-    load-requires
-    load-requires-2
-    sub-of-sums
-    part-of-sums-start
-    part-of-sums-end
-    sub-of-sums-2
-    part-of-sums-start-2
-    part-of-sums-end-2
-    sub-of-sums-3
-    part-of-sums-start-3
-    part-of-sums-end-3
-    sub-of-sums-4
-    part-of-sums-start-4
-    part-of-sums-end-4
-    of-sums-requires
-    same-length
-    same-length-2
-    same-length-3
-    same-length-4
-    returns-2)
+    count-at-requires-2
+    returns-2
+    sum-at-requires
+    below-requires
+    returns-3
+    sub-sum-at
+    sub-sum-at-2
+    sum-at-requires-2
+    too-long-requires
+    returns-4
+    walk-requires
+    returns-5)

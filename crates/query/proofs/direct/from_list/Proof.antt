@@ -1,58 +1,56 @@
--- The first places of the two slices hold the list, so that its entries answer.
+-- Energy rises along the list, so what is within the limit comes first; time falls, so the last of it is the best.
+use mathlib.Core.Path.{refl}
+use Prim.Native.Nat.{_-_}
+use native.Mathlib.Omega.{arith}
+use Rattle.query.proofs.ListPlaces.{entry-inside, list-empty, list-over, list-best}
 use borrow.Author.Needs.{needs}
-use Rattle.query.proofs.LoadedLists.{loaded-holds, held-answer}
 use Rattle.query.proofs.direct.from_list.Statement.{statement}
 use Rattle.query.proofs.direct.from_list.Tie as tie
 
-load-requires : tie.Need-load-requires
-load-requires c κs = search needs
-
-sub-last-within : tie.Need-sub-last-within
-sub-last-within c = search needs
-
-part-last-within-start : tie.Need-part-last-within-start
-part-last-within-start c = search needs
-
-part-last-within-end : tie.Need-part-last-within-end
-part-last-within-end c = search needs
-
-sub-last-within-2 : tie.Need-sub-last-within-2
-sub-last-within-2 c = search needs
-
-part-last-within-start-2 : tie.Need-part-last-within-start-2
-part-last-within-start-2 c = search needs
-
-part-last-within-end-2 : tie.Need-part-last-within-end-2
-part-last-within-end-2 c = search needs
-
-last-within-requires : tie.Need-last-within-requires
-last-within-requires c κs =
-    let l = c .before .before .before .before .before .before .before .before in
-    loaded-holds (l .before .before .before .before .before .before .pre .0) (l .load .ensures) .right
-
-same-length : tie.Need-same-length
-same-length c = search needs
-
-same-length-2 : tie.Need-same-length-2
-same-length-2 c = search needs
+count-at-requires : tie.Need-count-at-requires
+count-at-requires c κs = search needs
 
 returns : tie.Need-returns
-returns c =
-    let l = c .before .before .before .before .before .before .before .before .before in
-    held-answer (loaded-holds (l .before .before .before .before .before .before .pre .0) (l .load .ensures)) (c .last-within .ensures)
+returns c = list-empty (c .before .before .before .pre) (c .before .count-at .ensures) (c .if1 .taken)
+
+fitting-requires : tie.Need-fitting-requires
+fitting-requires c κs = search needs
+
+returns-2 : tie.Need-returns-2
+returns-2 c =
+    let some = c .before .before in
+    list-over (some .before .before .before .pre) (some .before .count-at .ensures) (some .if1 .left) (c .before .fitting .ensures) (c .if2 .taken)
+
+sub-last : tie.Need-sub-last
+sub-last c = search needs
+
+time-at-requires : tie.Need-time-at-requires
+time-at-requires c κs =
+    let fitted = c .before in
+    let pre = fitted .before .before .before .before .pre in
+    omega (arith, entry-inside pre {j = fitted .fitting .result - 1} (omega (arith, fitted .fitting .ensures .in-range)))
+
+energy-at-requires : tie.Need-energy-at-requires
+energy-at-requires c κs =
+    let fitted = c .before .before in
+    let pre = fitted .before .before .before .before .pre in
+    entry-inside pre (omega (arith, fitted .fitting .ensures .in-range))
+
+returns-3 : tie.Need-returns-3
+returns-3 c =
+    let within = c .before .before in
+    let some = within .before .before in
+    list-best (some .before .before .before .pre) (some .before .count-at .ensures) (some .if1 .left) (within .before .fitting .ensures) (within .if2 .left) refl (c .before .time-at .ensures) (c .energy-at .ensures)
 
 pub from-list-spec : {M : Type 1} → statement M
 from-list-spec =
     tie.close
     (tie.spec
-    load-requires
-    sub-last-within
-    part-last-within-start
-    part-last-within-end
-    sub-last-within-2
-    part-last-within-start-2
-    part-last-within-end-2
-    last-within-requires
-    same-length
-    same-length-2
-    returns)
+    count-at-requires
+    returns
+    fitting-requires
+    returns-2
+    sub-last
+    time-at-requires
+    energy-at-requires
+    returns-3)

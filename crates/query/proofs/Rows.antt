@@ -1,0 +1,148 @@
+-- The lists at two bytes and those behind them, level by level. In this order: one level more; the way along them; what they answer.
+use mathlib.Core.Path.{_≡_, refl, sym, ap, _∙_}
+use mathlib.Core.Logic.{_⊎_, inl, inr, ⊎-elim}
+use mathlib.Core.Bool.{true, false, true≢false}
+use mathlib.Core.List.{List}
+use Prim.Native.Nat.{ℕ, _+_, _≤_, _<_}
+use native.Mathlib.Decide.{ℕ-discrete}
+use native.Mathlib.Omega.{arith}
+use lib.ListN.{length}
+use Rattle.paths.specs.Weights.{energy, time, Within, NotLater, same, sooner, by-time, by-figures}
+use Rattle.lists.specs.Entries.{Weight}
+use Rattle.forest.specs.LabelFile.{listEnd}
+use Rattle.stored.specs.ListForm.{mostBytes}
+use Rattle.stored.specs.Formed.{ListFits}
+use Rattle.stored.specs.Scanned.{further}
+use Rattle.stored.proofs.Places.{further-next, further-none}
+use Rattle.query.specs.declared.Answer.{Answer}
+use Rattle.query.specs.declared.across.Best.{Best}
+use Rattle.query.specs.AnswerFrom.{AnswerFrom, found, over-limit, not-connected}
+use Rattle.query.specs.Sums.{noTime, SumIn, Only, Row, RowFits, Placed, SomeSum, Extends, Unknown, Told, told-found, told-over, told-apart}
+use Rattle.query.proofs.ListPlaces.{count-stands}
+use Rattle.query.proofs.BestSums.{ListParts, extends-kept, extends-then}
+
+-- ---- One level more
+
+module _ {s : List ℕ} {near far levels n f : ℕ} (near-is : n ≡ further s near levels) (far-is : f ≡ further s far levels) where
+  row-parts : ListParts (Row s near far (levels + 1)) (Row s near far levels) (Only n f)
+  row-parts =
+      record {
+        cases = λ a b h. pick a b h (ℕ-discrete (h .level) levels);
+        first = λ a b h. record { level = h .level; below = omega (arith, h .below); near-is = h .near-is; far-is = h .far-is };
+        second = λ a b h. record { level = levels; below = omega arith; near-is = h .near-is ∙ near-is; far-is = h .far-is ∙ far-is };
+      }
+    where
+      pick : (a b : ℕ) (h : Row s near far (levels + 1) a b) → Dec (h .level ≡ levels) → Row s near far levels a b ⊎ Only n f a b
+      pick a b h (yes e) =
+          inr (record { near-is = h .near-is ∙ ap (further s near) e ∙ sym near-is; far-is = h .far-is ∙ ap (further s far) e ∙ sym far-is })
+      pick a b h (no apart) = inl (record { level = h .level; below = omega (arith, h .below); near-is = h .near-is; far-is = h .far-is })
+
+-- ---- The way along them
+
+-- So many levels are done, and the places stand at the lists of the next
+pub record Rowed (s : List ℕ) (near far levels C : ℕ) (known : Best) (done n f : ℕ) (best : Best) : Type 0 where
+  pub few : done ≤ levels
+  pub near-is : n ≡ further s near done
+  pub far-is : f ≡ further s far done
+  pub so-far : Extends s (Row s near far done) C known best
+
+-- none is done at first
+pub rowed-none : (s : List ℕ) (near far levels C : ℕ) (known : Best) → Rowed s near far levels C known 0 near far known
+rowed-none s near far levels C known =
+    record {
+      few = omega arith;
+      near-is = sym (further-none s near);
+      far-is = sym (further-none s far);
+      so-far = extends-kept (λ some. omega (arith, some .among .lists .below));
+    }
+
+module _ {s : List ℕ} {near far levels C : ℕ} {known : Best} {done n f : ℕ} {best : Best} (now : Rowed s near far levels C known done n f best)
+    (row : RowFits s near far levels) (turn : done < levels) where
+  -- both lists of the level fit
+  pub rowed-near : ListFits s n
+  rowed-near = rw (now .near-is) (row .near-fits done turn)
+
+  pub rowed-far : ListFits s f
+  rowed-far = rw (now .far-is) (row .far-fits done turn)
+
+  -- so a step leads from each to the next
+  pub near-next : (n + 2 ≤ length s) × (length s ≤ mostBytes)
+  near-next = (count-stands rowed-near, row .few-bytes)
+
+  pub far-next : (f + 2 ≤ length s) × (length s ≤ mostBytes)
+  far-next = (count-stands rowed-far, row .few-bytes)
+
+  -- one level more is done
+  pub rowed-more :
+      {n′ f′ : ℕ} {best′ : Best} → Extends s (Only n f) C best best′ → n′ ≡ listEnd s n → f′ ≡ listEnd s f →
+      Rowed s near far levels C known (done + 1) n′ f′ best′
+  rowed-more here is-near is-far =
+      record {
+        few = omega arith;
+        near-is = is-near ∙ ap (listEnd s) (now .near-is) ∙ sym (further-next s near done);
+        far-is = is-far ∙ ap (listEnd s) (now .far-is) ∙ sym (further-next s far done);
+        so-far = extends-then (row-parts (now .near-is) (now .far-is)) (now .so-far) here;
+      }
+
+-- all are done
+pub rowed-all :
+    {s : List ℕ} {near far levels C : ℕ} {known : Best} {done n f : ℕ} {best : Best} → Rowed s near far levels C known done n f best → levels ≤ done →
+    Extends s (Row s near far levels) C known best
+rowed-all {levels = levels} {done = done} now h = let all : done ≡ levels = omega (arith, now .few) in rw all at (now .so-far)
+
+-- ---- What they answer
+
+-- what takes longer is later
+late-clash : {p q : Weight} → NotLater energy p q → time energy q < time energy p → ⊥
+late-clash (sooner (by-time less)) h = omega arith
+late-clash (sooner (by-figures e less)) h = omega arith
+late-clash (same e) h = omega (arith, ap (time energy) e)
+
+module _ {s : List ℕ} {near far levels C : ℕ} {known best : Best} (row : RowFits s near far levels) (unknown : Unknown known)
+    (extends : Extends s (Row s near far levels) C known best) where
+  -- every sum takes less than the time that nothing takes
+  in-time : {p : Weight} → SumIn s (Row s near far levels) p → time energy p < noTime
+  in-time h =
+      omega (
+        arith,
+        ap (time energy) (h .sum .adds),
+        near-fits .time-fits (h .i) (h .sum .in-near) .1,
+        far-fits .time-fits (h .j) (h .sum .in-far) .1,
+      )
+    where
+      near-fits : ListFits s (h .near)
+      near-fits = rw (h .lists .near-is) (row .near-fits (h .lists .level) (h .lists .below))
+
+      far-fits : ListFits s (h .far)
+      far-fits = rw (h .lists .far-is) (row .far-fits (h .lists .level) (h .lists .below))
+
+  -- so none is within the limit where nothing was found
+  none-within : best .sum .time .0 ≡ noTime → (q : Weight) → SumIn s (Row s near far levels) q → Within energy C q → ⊥
+  none-within late q h w = late-clash (extends .improves .least q h w) (omega (arith, late, in-time h))
+
+  -- and what was found is one
+  found-placed : (best .sum .time .0 ≡ noTime → ⊥) → Placed s (Row s near far levels) C (best .sum)
+  found-placed some = ⊎-elim (λ e. absurd (some (ap (λ sum. sum .time .0) e ∙ unknown .late))) (λ z. z) (extends .improves .origin)
+
+  pub row-answer : {r : Answer} → Told best r → AnswerFrom (SumIn s (Row s near far levels)) C r
+  row-answer (told-found some e) =
+      let placed = found-placed some in
+      rw e
+      (found refl
+      (record {
+        among =
+            record {
+              near = best .sum .near;
+              far = best .sum .far;
+              i = best .sum .i;
+              j = best .sum .j;
+              lists = placed .lists;
+              sum = placed .stands;
+            };
+        within = placed .within;
+        least = extends .improves .least;
+      }))
+  row-answer (told-over late connected e) =
+      let some : SomeSum s (Row s near far levels) = ⊎-elim (λ f. absurd (true≢false (sym f ∙ unknown .apart))) (λ z. z) (extends .connected connected) in
+      over-limit e (record { one = some .one; among = some .among; none-within = none-within late })
+  row-answer (told-apart late apart e) = not-connected e (λ q h. extends .apart apart .1 (record { one = q; among = h }))

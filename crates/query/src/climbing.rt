@@ -1,0 +1,113 @@
+// Where the lists of two junctions for their common ancestors stand: both climb to where they meet, each list place with its ancestor.
+use crate::Between;
+use forest::parents::parent_at;
+use stored::place::Place;
+use stored::place::number_of;
+ghost use mathlib.Core.Path.{_≡_};
+ghost use Prim.Native.Nat.{_+_, _-_, _*_, _≤_, _<_};
+ghost use lib.ListN.{length};
+ghost use Rattle.network.specs.NetworkFile.{junctionsOf};
+ghost use Rattle.forest.specs.Forest.{depthOf};
+ghost use Rattle.forest.specs.Fits.{DepthsFilled};
+ghost use Rattle.stored.specs.ListForm.{mostBytes};
+ghost use Rattle.stored.specs.Formed.{Formed, StartsFilled};
+ghost use Rattle.query.specs.Between.{Climbs, Steps, Abreast, Leads};
+
+// The climb of a junction: an ancestor of it, at first the junction itself, and the byte of its list for that one's parent.
+pub struct Climb {
+    pub from: usize,
+    pub up: usize,
+    pub at: usize,
+}
+
+// To the parent, and to the list behind.
+fn step(labels: &[u8], below: Climb) -> Climb
+    requires { ⌜ (18 + 2 * below .up ≤ length (now labels)) × (below .at + 2 ≤ length (now labels)) ⌝ }
+    requires { ⌜ length (now labels) ≤ mostBytes ⌝ }
+    ensures { λ r. ⌜ Steps (now (labels .entry)) below r ⌝ }
+{
+    let up = below.up;
+    let place = Place { at: below.at };
+    let next = place.next(labels);
+    Climb {
+        from: below.from,
+        up: parent_at(labels, up) as usize,
+        at: next.at,
+    }
+}
+
+// The climb of v, so many steps up.
+fn climb_of(labels: &[u8], starts: &[u32; 1024], v: usize, steps: u32) -> Climb
+    requires { ⌜ Formed (now labels) × StartsFilled (now labels) (now starts) ⌝ }
+    requires { ⌜ (v < junctionsOf (now labels)) × (steps ≤ depthOf (now labels) v) ⌝ }
+    ensures { λ r. ⌜ Climbs (now (labels .entry)) v (depthOf (now (labels .entry)) v - steps) r ⌝ }
+{
+    let mut here = Climb {
+        from: v,
+        up: v,
+        at: number_of(starts, v),
+    };
+    let mut done: u32 = 0;
+    while done < steps {
+        here = step(labels, here);
+        done += 1;
+    }
+    here
+}
+
+// Two climbs side by side, until their parents are one.
+fn meet(labels: &[u8], depth: u32, near: Climb, far: Climb) -> Between
+    requires { ⌜ Formed (now labels) ⌝ }
+    requires { ⌜ Abreast (now labels) (near .from) (far .from) depth near far ⌝ }
+    ensures { λ r. ⌜ Leads (now (labels .entry)) (near .from) (far .from) r ⌝ }
+{
+    let mut left = near;
+    let mut right = far;
+    let mut levels = depth;
+    while levels > 0 {
+        let above_left = step(labels, left);
+        let above_right = step(labels, right);
+        if above_left.up == above_right.up {
+            return Between::Lists(left.at, right.at, levels);
+        }
+        left = above_left;
+        right = above_right;
+        levels -= 1;
+    }
+    Between::Nothing
+}
+
+// The lists that tell of the paths between x and y, two junctions. The deeper climbs to just below the other's depth first: the list
+// there is for what may be the other.
+pub fn between(
+    labels: &[u8],
+    depths: &[u32; 1024],
+    starts: &[u32; 1024],
+    x: usize,
+    y: usize,
+) -> Between
+    requires { ⌜ Formed (now labels) × DepthsFilled (now labels) (now depths) × StartsFilled (now labels) (now starts) ⌝ }
+    requires { ⌜ (x < junctionsOf (now labels)) × (y < junctionsOf (now labels)) × (x ≡ y → ⊥) ⌝ }
+    ensures { λ r. ⌜ Leads (now (labels .entry)) x y r ⌝ }
+{
+    let depth_x = depths[x];
+    let depth_y = depths[y];
+    if depth_y < depth_x {
+        let below = climb_of(labels, starts, x, depth_x - depth_y - 1);
+        let near = step(labels, below);
+        if near.up == y {
+            return Between::List(below.at);
+        }
+        return meet(labels, depth_y, near, climb_of(labels, starts, y, 0));
+    }
+    if depth_x < depth_y {
+        let below = climb_of(labels, starts, y, depth_y - depth_x - 1);
+        let far = step(labels, below);
+        if far.up == x {
+            return Between::List(below.at);
+        }
+        return meet(labels, depth_x, climb_of(labels, starts, x, 0), far);
+    }
+    let near = climb_of(labels, starts, x, 0);
+    meet(labels, depth_x, near, climb_of(labels, starts, y, 0))
+}
