@@ -93,8 +93,7 @@ module _ {s : List ℕ} {v depth : ℕ} (fit : ParentsFit s) (below : v < juncti
       head-more d h (no apart) =
           rw (getD-set-other heads depth d v 0 apart) (first-behind (λ e. apart (sym e ∙ sym is)) (old d h))
 
-      next-more :
-          (w : ℕ) → v ≤ w → w < junctionsOf s → Dec (w ≡ v) → First s (depthOf s w) (w + 1) (getD (set nexts v (getD heads depth 0)) w 0)
+      next-more : (w : ℕ) → v ≤ w → w < junctionsOf s → Dec (w ≡ v) → First s (depthOf s w) (w + 1) (getD (set nexts v (getD heads depth 0)) w 0)
       next-more w h l (yes same) =
           rw (same, getD-set-same nexts v (getD heads depth 0) 0 (omega (arith, now .next-places, few)), is) (old (depthOf s v) (omega (arith, depth-inside)))
       next-more w h l (no apart) = rw (getD-set-other nexts v w (getD heads depth 0) 0 apart) (now .next w (omega arith) l)

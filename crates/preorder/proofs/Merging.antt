@@ -85,18 +85,25 @@ merged-none {s} {sizes = sizes} {offsets} fit levels places =
 module _
     {s sizes offsets : List ℕ} {total v : ℕ} (fit : ParentsFit s) (below : v < junctionsOf s) (now : Merged s sizes offsets total (depthOf s v) v)
   where
+    -- w is done before v is, and with v
+    abbrev Before : ℕ → Type 0
+    Before w = Deeper s (depthOf s v) v w
+
+    abbrev Done : ℕ → Type 0
+    Done w = Deeper s (depthOf s v) (v + 1) w
+
     few : v < 1024
     few = omega (arith, fit .few-junctions)
 
     -- v is not done before
-    v-open : Deeper s (depthOf s v) v v → ⊥
+    v-open : Before v → ⊥
     v-open done = omega arith
 
     -- what is done then was done before, or is v
-    earlier : (w : ℕ) → w < junctionsOf s → (w ≡ v → ⊥) → Deeper s (depthOf s v) (v + 1) w → Deeper s (depthOf s v) v w
+    earlier : (w : ℕ) → w < junctionsOf s → (w ≡ v → ⊥) → Done w → Before w
     earlier w h apart done = omega (arith, few, fit .few-junctions)
 
-    later : (w : ℕ) → Deeper s (depthOf s v) v w → Deeper s (depthOf s v) (v + 1) w
+    later : (w : ℕ) → Before w → Done w
     later w done = omega arith
 
     -- what v holds is in the sum of the rests
@@ -113,17 +120,17 @@ module _
     -- where v starts behind its siblings that are done, and no block that is done changes its size, blocks stay apart
     apart-more :
         (start : ℕ) (after : List ℕ) →
-        ((w : ℕ) → w < junctionsOf s → Deeper s (depthOf s v) (v + 1) w → getD after w 0 ≡ getD sizes w 0) →
+        ((w : ℕ) → w < junctionsOf s → Done w → getD after w 0 ≡ getD sizes w 0) →
         ((w : ℕ) →
         w < junctionsOf s →
-        Deeper s (depthOf s v) v w →
+        Before w →
         parentAt s w ≡ parentAt s v →
         getD offsets w 0 + getD sizes w 0 ≤ start) →
         (u w : ℕ) →
         u < junctionsOf s →
         w < junctionsOf s →
-        Deeper s (depthOf s v) (v + 1) u →
-        Deeper s (depthOf s v) (v + 1) w →
+        Done u →
+        Done w →
         parentAt s u ≡ parentAt s w →
         (u ≡ w → ⊥) →
         Apart (set offsets v start) after u w
@@ -173,7 +180,7 @@ module _
           of-root :
               (w : ℕ) →
               w < junctionsOf s →
-              Deeper s (depthOf s v) (v + 1) w →
+              Done w →
               parentAt s w ≡ noParent →
               Dec (w ≡ v) →
               getD (set offsets v total) w 0 + getD sizes w 0 ≤ total + getD sizes v 0
@@ -184,7 +191,7 @@ module _
           of-child :
               (w : ℕ) →
               w < junctionsOf s →
-              Deeper s (depthOf s v) (v + 1) w →
+              Done w →
               (parentAt s w ≡ noParent → ⊥) →
               Dec (w ≡ v) →
               (1 ≤ getD (set offsets v total) w 0) × (getD (set offsets v total) w 0 + getD sizes w 0 ≤ getD sizes (parentAt s w) 0)
@@ -192,12 +199,7 @@ module _
           of-child w h done other (no apart) =
               rw (offset-stays total w apart) (now .blocks .of-child w h (earlier w h apart done) other)
 
-          rest :
-              (w : ℕ) →
-              w < junctionsOf s →
-              (Deeper s (depthOf s v) (v + 1) w → ⊥) →
-              Dec (w ≡ v) →
-              getD (set (now .rests .rests) v 0) w 0 ≡ getD sizes w 0
+          rest : (w : ℕ) → w < junctionsOf s → (Done w → ⊥) → Dec (w ≡ v) → getD (set (now .rests .rests) v 0) w 0 ≡ getD sizes w 0
           rest w h left (yes same) = absurd (left (rw same (omega arith)))
           rest w h left (no other) =
               getD-set-other (now .rests .rests) v w 0 0 other ∙ now .rests .rest w h (λ done. left (later w done))
@@ -223,7 +225,7 @@ module _
       parent-other e = omega (arith, up .depth, ap (depthOf s) e)
 
       -- the parent is not done, neither before nor after
-      parent-open : Deeper s (depthOf s v) (v + 1) p → ⊥
+      parent-open : Done p → ⊥
       parent-open done = omega (arith, up .depth, few)
 
       parent-rest : getD (now .rests .rests) p 0 ≡ room
@@ -235,7 +237,7 @@ module _
       size-put : (x : ℕ) → getD (set sizes p x) p 0 ≡ x
       size-put x = getD-set-same sizes p x 0 (omega (arith, parent-inside, now .blocks .size-places))
 
-      done-keeps : (x w : ℕ) → w < junctionsOf s → Deeper s (depthOf s v) (v + 1) w → getD (set sizes p x) w 0 ≡ getD sizes w 0
+      done-keeps : (x w : ℕ) → w < junctionsOf s → Done w → getD (set sizes p x) w 0 ≡ getD sizes w 0
       done-keeps x w h done = size-stays x w (λ e. parent-open (rw e at done))
 
       -- no block loses a place
@@ -322,7 +324,7 @@ module _
           of-root :
               (w : ℕ) →
               w < junctionsOf s →
-              Deeper s (depthOf s v) (v + 1) w →
+              Done w →
               parentAt s w ≡ noParent →
               Dec (w ≡ v) →
               getD (set offsets v room) w 0 + getD (set sizes p whole) w 0 ≤ total
@@ -333,7 +335,7 @@ module _
           of-child :
               (w : ℕ) →
               w < junctionsOf s →
-              Deeper s (depthOf s v) (v + 1) w →
+              Done w →
               (parentAt s w ≡ noParent → ⊥) →
               Dec (w ≡ v) →
               (1 ≤ getD (set offsets v room) w 0)
@@ -349,13 +351,7 @@ module _
               (offset-stays room w apart, done-keeps whole w h done)
               (before .0, omega (arith, before .1, grown (parentAt s w)))
 
-          rest :
-              (w : ℕ) →
-              w < junctionsOf s →
-              (Deeper s (depthOf s v) (v + 1) w → ⊥) →
-              Dec (w ≡ v) →
-              Dec (w ≡ p) →
-              getD moved w 0 ≡ getD (set sizes p whole) w 0
+          rest : (w : ℕ) → w < junctionsOf s → (Done w → ⊥) → Dec (w ≡ v) → Dec (w ≡ p) → getD moved w 0 ≡ getD (set sizes p whole) w 0
           rest w h left (yes same) is-p = absurd (left (rw same (omega arith)))
           rest w h left (no other) (yes is-p) = rw (is-p, size-put whole) parent-moved
           rest w h left (no other) (no away) =
@@ -390,8 +386,7 @@ module _ {s sizes offsets : List ℕ} {total d : ℕ} (fit : ParentsFit s) where
 -- ---- All
 
 -- with level 0 merged all are, and the roots fill no more than there are junctions
-pub merged-all :
-    {s sizes offsets : List ℕ} {total level : ℕ} → Merged s sizes offsets total level 1024 → level ≤ 0 → AllMerged s sizes offsets
+pub merged-all : {s sizes offsets : List ℕ} {total level : ℕ} → Merged s sizes offsets total level 1024 → level ≤ 0 → AllMerged s sizes offsets
 merged-all now h =
     let blocks = merged-as {e = 0} now (omega arith) .blocks in
     record {

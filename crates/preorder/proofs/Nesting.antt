@@ -33,12 +33,7 @@ record Nested (s spots sizes : List ℕ) : Type 0 where
   apart : (u v : ℕ) → u < junctionsOf s → v < junctionsOf s → parentAt s u ≡ parentAt s v → (u ≡ v → ⊥) → Apart spots sizes u v
 
 -- blocks at the spots that the offsets lead to nest
-nested :
-    {s spots sizes offsets : List ℕ} →
-    ParentsFit s →
-    AllMerged s sizes offsets →
-    Placed s offsets spots (junctionsOf s) 0 →
-    Nested s spots sizes
+nested : {s spots sizes offsets : List ℕ} → ParentsFit s → AllMerged s sizes offsets → Placed s offsets spots (junctionsOf s) 0 → Nested s spots sizes
 nested {s} {spots} {sizes} {offsets} fit merged placed =
     record {
       itself = merged .itself;
@@ -92,14 +87,7 @@ module _ {s spots sizes : List ℕ} (fit : ParentsFit s) (nest : Nested s spots 
 
   -- ---- Blocks of one depth are apart
 
-  level-apart :
-      (d u v : ℕ) →
-      u < junctionsOf s →
-      v < junctionsOf s →
-      depthOf s u ≡ d →
-      depthOf s v ≡ d →
-      (u ≡ v → ⊥) →
-      Apart spots sizes u v
+  level-apart : (d u v : ℕ) → u < junctionsOf s → v < junctionsOf s → depthOf s u ≡ d → depthOf s v ≡ d → (u ≡ v → ⊥) → Apart spots sizes u v
   level-apart zero u v h k e f other =
       nest .apart u v h k (depth-none s u e (fit .ends u h) ∙ sym (depth-none s v f (fit .ends v k))) other
   level-apart (suc d) u v h k e f other =
@@ -214,8 +202,7 @@ module _ {s spots sizes : List ℕ} (fit : ParentsFit s) (nest : Nested s spots 
       }
 
   -- with the junctions listed by their spots, it is whole
-  numbered :
-      {order : List ℕ} → length spots ≡ 1024 → length sizes ≡ 1024 → Listed spots order (junctionsOf s) → Numbered s spots sizes order
+  numbered : {order : List ℕ} → length spots ≡ 1024 → length sizes ≡ 1024 → Listed spots order (junctionsOf s) → Numbered s spots sizes order
   numbered {order} spot-places size-places listed =
       record {
         spots-length = spot-places;

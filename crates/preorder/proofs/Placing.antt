@@ -85,8 +85,7 @@ module _
           of-child w h done child (yes same) = rw (same, put) (as-child (rw same at child))
           of-child w h done child (no other) = stays w other ∙ now .of-child w h (earlier w h other done) child
 
-          small :
-              (w : ℕ) → w < junctionsOf s → Higher s (depthOf s v) (v + 1) w → Dec (w ≡ v) → getD (set spots v x) w 0 ≤ 1024 * (depthOf s w + 1)
+          small : (w : ℕ) → w < junctionsOf s → Higher s (depthOf s v) (v + 1) w → Dec (w ≡ v) → getD (set spots v x) w 0 ≤ 1024 * (depthOf s w + 1)
           small w h done (yes same) = rw (same, put) bound
           small w h done (no other) = rw (stays w other) (now .small w h (earlier w h other done))
 
@@ -120,10 +119,7 @@ placed-as now same = rw same at now
 module _ {s offsets spots : List ℕ} where
   -- no more are placed
   placed-fewer :
-      {d v e x : ℕ} →
-      ((w : ℕ) → w < junctionsOf s → Higher s e x w → Higher s d v w) →
-      Placed s offsets spots d v →
-      Placed s offsets spots e x
+      {d v e x : ℕ} → ((w : ℕ) → w < junctionsOf s → Higher s e x w → Higher s d v w) → Placed s offsets spots d v → Placed s offsets spots e x
   placed-fewer back now =
       record {
         places = now .places;
