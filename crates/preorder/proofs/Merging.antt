@@ -148,7 +148,10 @@ module _
 
     -- ---- A root
 
-    module _ (root : parentAt s v ≡ noParent) where
+    module _ {parent : ℕ} (read : parent ≡ parentAt s v) (none : parent ≡ noParent) where
+      root : parentAt s v ≡ noParent
+      root = sym read ∙ none
+
       -- the total stays within the count
       pub root-total : total + getD sizes v 0 ≤ 1024
       root-total =
@@ -206,7 +209,13 @@ module _
 
     -- ---- A child
 
-    module _ {p : ℕ} (is : p ≡ parentAt s v) (child : p ≡ noParent → ⊥) where
+    module _ {parent p : ℕ} (read : parent ≡ parentAt s v) (other : parent ≡ noParent → ⊥) (widened : p ≡ parent) where
+      is : p ≡ parentAt s v
+      is = widened ∙ read
+
+      child : p ≡ noParent → ⊥
+      child root = other (sym widened ∙ root)
+
       -- what the parent's block has so far
       abbrev room : ℕ
       room = getD sizes p 0

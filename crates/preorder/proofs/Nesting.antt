@@ -45,6 +45,7 @@ nested {s} {spots} {sizes} {offsets} fit merged placed =
       apart = λ u v h k same other. pick u v h k same other (root? s u) (merged .apart u v h k (deep u h) (deep v k) same other);
     }
   where
+    -- every junction is merged and placed
     deep : (v : ℕ) → v < junctionsOf s → 1024 * 0 + v < 1024 * depthOf s v + 1024
     deep v h = omega (arith, fit .few-junctions)
 
@@ -52,7 +53,12 @@ nested {s} {spots} {sizes} {offsets} fit merged placed =
     high v h = omega (arith, fit .few-junctions, fit .ends v h)
 
     -- siblings start behind the same place
-    moved : (x u v : ℕ) → getD spots u 0 ≡ x + getD offsets u 0 → getD spots v 0 ≡ x + getD offsets v 0 → Apart offsets sizes u v → Apart spots sizes u v
+    moved :
+        (x u v : ℕ) →
+        getD spots u 0 ≡ x + getD offsets u 0 →
+        getD spots v 0 ≡ x + getD offsets v 0 →
+        Apart offsets sizes u v →
+        Apart spots sizes u v
     moved x u v e f = ⊎-elim (λ h. inl (omega arith)) (λ h. inr (omega arith))
 
     pick :
@@ -198,7 +204,12 @@ module _ {s spots sizes : List ℕ} (fit : ParentsFit s) (nest : Nested s spots 
       record {
         few = fit .few-junctions;
         below = λ v h. omega (arith, block-inside (depthOf s v) v h refl, nest .itself v h);
-        once = λ u v h k e. ⊎-elim (λ same. same) (λ above. absurd (omega (arith, above-inside above .behind))) (block-below u v h k (omega arith, omega (arith, nest .itself u h)));
+        once =
+            λ u v h k e.
+            ⊎-elim
+            (λ same. same)
+            (λ above. absurd (omega (arith, above-inside above .behind)))
+            (block-below u v h k (omega arith, omega (arith, nest .itself u h)));
       }
 
   -- with the junctions listed by their spots, it is whole

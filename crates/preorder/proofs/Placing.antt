@@ -1,6 +1,6 @@
 -- Spots are found from the roots down.
 -- In this order: no junction yet; one junction more; a level; the order.
-use mathlib.Core.Path.{_≡_, refl, ap, _∙_}
+use mathlib.Core.Path.{_≡_, refl, sym, ap, _∙_}
 use mathlib.Core.List.{List}
 use Prim.Native.Nat.{ℕ, _+_, _*_, _≤_, _<_}
 use native.Mathlib.Decide.{ℕ-discrete, decLt}
@@ -90,11 +90,19 @@ module _
           small w h done (no other) = rw (stays w other) (now .small w h (earlier w h other done))
 
     -- a root stands at its offset
-    pub placed-root : parentAt s v ≡ noParent → Placed s offsets (set spots v (getD offsets v 0)) (depthOf s v) (v + 1)
-    placed-root root = placed-more (getD offsets v 0) (omega (arith, few .small v below)) (λ is. refl) (λ child. absurd (child root))
+    pub placed-root :
+        {parent : ℕ} → parent ≡ parentAt s v → parent ≡ noParent → Placed s offsets (set spots v (getD offsets v 0)) (depthOf s v) (v + 1)
+    placed-root read none =
+        placed-more (getD offsets v 0) (omega (arith, few .small v below)) (λ is. refl) (λ child. absurd (child (sym read ∙ none)))
 
     -- a child behind its parent
-    module _ {p : ℕ} (is : p ≡ parentAt s v) (child : p ≡ noParent → ⊥) where
+    module _ {parent p : ℕ} (read : parent ≡ parentAt s v) (other : parent ≡ noParent → ⊥) (widened : p ≡ parent) where
+      is : p ≡ parentAt s v
+      is = widened ∙ read
+
+      child : p ≡ noParent → ⊥
+      child root = other (sym widened ∙ root)
+
       above : Climbed s v 1 p
       above = rw is (one-up fit v below (λ root. child (is ∙ root)))
 
@@ -108,7 +116,7 @@ module _
 
       pub placed-child : Placed s offsets (set spots v (getD spots p 0 + getD offsets v 0)) (depthOf s v) (v + 1)
       placed-child =
-          placed-more (getD spots p 0 + getD offsets v 0) spot-small (λ root. absurd (child (is ∙ root))) (λ other. rw is)
+          placed-more (getD spots p 0 + getD offsets v 0) spot-small (λ root. absurd (child (is ∙ root))) (λ away. rw is)
 
 -- ---- A level
 

@@ -1,5 +1,4 @@
 -- A root's block goes behind the roots so far, a child's behind what its parent's block has, so behind its siblings.
-use mathlib.Core.Path.{sym, _∙_}
 use native.Mathlib.Omega.{arith}
 use Rattle.preorder.proofs.Merging.{root-total, merged-root, parent-inside, child-total, merged-child}
 use borrow.Author.Needs.{needs}
@@ -24,12 +23,10 @@ element-write-offsets c = search needs
 add-result : tie.Need-add-result
 add-result c =
     let start = c .before .before .before .before in
-    omega (arith, root-total (start .pre .0 .0) (start .pre .0 .1) (start .pre .1) (sym (c .before .before .parent-at .ensures .is) ∙ c .if1 .taken))
+    omega (arith, root-total (start .pre .0 .0) (start .pre .0 .1) (start .pre .1) (c .before .before .parent-at .ensures .is) (c .if1 .taken))
 
 returns : tie.Need-returns
-returns c =
-    let start = c .before .before .before .before in
-    merged-root (start .pre .0 .0) (start .pre .0 .1) (start .pre .1) (sym (c .before .before .parent-at .ensures .is) ∙ c .if1 .taken)
+returns c = search (merged-root)
 
 wide-requires : tie.Need-wide-requires
 wide-requires c κs = search needs
@@ -38,14 +35,7 @@ mul-room : tie.Need-mul-room
 mul-room c = search needs
 
 element-copy-out-room : tie.Need-element-copy-out-room
-element-copy-out-room c =
-    let start = c .before .before .before .before .before in
-    parent-inside
-    (start .pre .0 .0)
-    (start .pre .0 .1)
-    (start .pre .1)
-    (c .wide .ensures ∙ c .before .before .before .parent-at .ensures .is)
-    (λ root. c .before .if1 .left (sym (c .wide .ensures) ∙ root))
+element-copy-out-room c = search (parent-inside)
 
 mul-offsets-2 : tie.Need-mul-offsets-2
 mul-offsets-2 c = search needs
@@ -62,32 +52,19 @@ add-sizes c =
           (start .pre .0 .0)
           (start .pre .0 .1)
           (start .pre .1)
-          (c .before .wide .ensures ∙ c .before .before .before .before .parent-at .ensures .is)
-          (λ root. c .before .before .if1 .left (sym (c .before .wide .ensures) ∙ root)),
+          (c .before .before .before .before .parent-at .ensures .is)
+          (c .before .before .if1 .left)
+          (c .before .wide .ensures),
     )
 
 mul-sizes : tie.Need-mul-sizes
 mul-sizes c = search needs
 
 element-write-sizes : tie.Need-element-write-sizes
-element-write-sizes c =
-    let start = c .before .before .before .before .before .before in
-    parent-inside
-    (start .pre .0 .0)
-    (start .pre .0 .1)
-    (start .pre .1)
-    (c .before .wide .ensures ∙ c .before .before .before .before .parent-at .ensures .is)
-    (λ root. c .before .before .if1 .left (sym (c .before .wide .ensures) ∙ root))
+element-write-sizes c = search (parent-inside)
 
 returns-2 : tie.Need-returns-2
-returns-2 c =
-    let start = c .before .before .before .before .before .before in
-    merged-child
-    (start .pre .0 .0)
-    (start .pre .0 .1)
-    (start .pre .1)
-    (c .before .wide .ensures ∙ c .before .before .before .before .parent-at .ensures .is)
-    (λ root. c .before .before .if1 .left (sym (c .before .wide .ensures) ∙ root))
+returns-2 c = search (merged-child)
 
 pub merge-spec : {M : Type 1} → statement M
 merge-spec =

@@ -31,35 +31,24 @@ chain-levels-requires c κs =
 
 merge-all-requires : tie.Need-merge-all-requires
 merge-all-requires c κs =
-    let start = c .before .before .before .before .before .before .before .before .before .before in
     let levels = c .before .before .before .before .chain-levels .ensures in
+    let start = c .before .before .before .before .before .before .before .before .before .before in
     (start .pre .0, (levels-all levels, merged-none (start .pre .0) levels (length-replicate {A = ℕ} 1024 0)))
 
 place-all-requires : tie.Need-place-all-requires
 place-all-requires c κs =
-    let start = c .before .before .before .before .before .before .before .before .before .before .before .before .before .before .before in (
-      (start .pre .0, offsets-small (start .pre .0) (c .before .before .before .before .merge-all .ensures)),
-      (levels-all (c .before .before .before .before .before .before .before .before .before .chain-levels .ensures), start .pre .1 .1 .0),
+    let merged = c .before .before .before .before in
+    let chained = merged .before .before .before .before .before in
+    let start = chained .before .before .before .before .before .before in (
+      (start .pre .0, offsets-small (start .pre .0) (merged .merge-all .ensures)),
+      (levels-all (chained .chain-levels .ensures), start .pre .1 .1 .0),
     )
 
 list-order-requires : tie.Need-list-order-requires
-list-order-requires c κs =
-    let start = c .before .before .before .before .before .before .before .before .before .before .before .before .before .before .before .before .before .before in
-    let placed = c .before .before .place-all .ensures in (
-      placed-spread (start .pre .0) (c .before .before .before .before .before .before .before .merge-all .ensures) placed (c .before .before .before .before .before .before .before .before .before .before .before .before .before .before .before .before .u16-at .ensures .is),
-      placed .places,
-      start .pre .1 .1 .2,
-    )
+list-order-requires c κs = search (placed-spread, needs)
 
 returns : tie.Need-returns
-returns c =
-    let start = c .before .before .before .before .before .before .before .before .before .before .before .before .before .before .before .before .before .before .before in
-    listed-numbered
-    (start .pre .0)
-    (c .before .before .before .before .before .before .before .before .merge-all .ensures)
-    (c .before .before .before .place-all .ensures)
-    (c .before .before .before .before .before .before .before .before .before .before .before .before .before .before .before .before .before .u16-at .ensures .is)
-    (c .list-order .ensures)
+returns c = search (listed-numbered)
 
 pub number-spec : {M : Type 1} → statement M
 number-spec =

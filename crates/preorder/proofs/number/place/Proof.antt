@@ -1,5 +1,4 @@
 -- A root stands at its offset; a child's parent is placed already, and the child stands at its offset behind it.
-use mathlib.Core.Path.{sym, _∙_}
 use native.Mathlib.Omega.{arith}
 use Rattle.preorder.proofs.Placing.{placed-root, parent-inside, spot-small, placed-child}
 use borrow.Author.Needs.{needs}
@@ -22,14 +21,7 @@ element-write-spots : tie.Need-element-write-spots
 element-write-spots c = search needs
 
 returns : tie.Need-returns
-returns c =
-    let start = c .before .before .before .before in
-    placed-root
-    (start .pre .0 .0)
-    (start .pre .0 .1)
-    (start .pre .0 .2)
-    (start .pre .1)
-    (sym (c .before .before .parent-at .ensures .is) ∙ c .before .if1 .taken)
+returns c = search (placed-root)
 
 wide-requires : tie.Need-wide-requires
 wide-requires c κs = search needs
@@ -38,15 +30,7 @@ mul-spots-3 : tie.Need-mul-spots-3
 mul-spots-3 c = search needs
 
 element-copy-out-spots-2 : tie.Need-element-copy-out-spots-2
-element-copy-out-spots-2 c =
-    let start = c .before .before .before .before in
-    parent-inside
-    (start .pre .0 .0)
-    (start .pre .0 .1)
-    (start .pre .0 .2)
-    (start .pre .1)
-    (c .wide .ensures ∙ c .before .before .parent-at .ensures .is)
-    (λ root. c .before .if1 .left (sym (c .wide .ensures) ∙ root))
+element-copy-out-spots-2 c = search (parent-inside)
 
 mul-spots-4 : tie.Need-mul-spots-4
 mul-spots-4 c = search needs
@@ -65,8 +49,9 @@ add-spots c =
           (start .pre .0 .1)
           (start .pre .0 .2)
           (start .pre .1)
-          (c .before .before .wide .ensures ∙ c .before .before .before .before .parent-at .ensures .is)
-          (λ root. c .before .before .before .if1 .left (sym (c .before .before .wide .ensures) ∙ root)),
+          (c .before .before .before .before .parent-at .ensures .is)
+          (c .before .before .before .if1 .left)
+          (c .before .before .wide .ensures),
     )
 
 mul-spots-5 : tie.Need-mul-spots-5
@@ -76,15 +61,7 @@ element-write-spots-2 : tie.Need-element-write-spots-2
 element-write-spots-2 c = search needs
 
 returns-2 : tie.Need-returns-2
-returns-2 c =
-    let start = c .before .before .before .before .before .before in
-    placed-child
-    (start .pre .0 .0)
-    (start .pre .0 .1)
-    (start .pre .0 .2)
-    (start .pre .1)
-    (c .before .before .wide .ensures ∙ c .before .before .before .before .parent-at .ensures .is)
-    (λ root. c .before .before .before .if1 .left (sym (c .before .before .wide .ensures) ∙ root))
+returns-2 c = search (placed-child)
 
 pub place-spec : {M : Type 1} → statement M
 place-spec =
