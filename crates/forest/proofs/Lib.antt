@@ -3,3 +3,4 @@ pub mod Chains
 pub mod Forest
 pub mod Pigeonhole
 pub mod ParentLoops
+pub mod OneChain

@@ -88,7 +88,7 @@ module _ {n : ℕ} {depths : List ℕ} where
   forgetting-end now all = record { places = now .places; unknown = λ w l. now .unknown w (omega arith) }
 
 -- the number that a store leaves at w is the one stored, or the one that was there
-stored-or-old : (depths : List ℕ) (u d w : ℕ) → u < length depths → ((w ≡ u) × (getD (set depths u d) w 0 ≡ d)) ⊎ (getD (set depths u d) w 0 ≡ getD depths w 0)
+pub stored-or-old : (depths : List ℕ) (u d w : ℕ) → u < length depths → ((w ≡ u) × (getD (set depths u d) w 0 ≡ d)) ⊎ (getD (set depths u d) w 0 ≡ getD depths w 0)
 stored-or-old depths u d w inside = pick (ℕ-discrete w u)
   where
     pick : Dec (w ≡ u) → ((w ≡ u) × (getD (set depths u d) w 0 ≡ d)) ⊎ (getD (set depths u d) w 0 ≡ getD depths w 0)

@@ -6,7 +6,7 @@ use Prim.Native.Nat.{ℕ, _+_, _*_, _≤_, _<_}
 use lib.ListN.{length, getD}
 use Rattle.refusals.specs.Order.{every}
 use Rattle.network.specs.NetworkFile.{junctionsOf}
-use Rattle.forest.specs.Forest.{depthOf, ancestorOf, parentFits, chainEnds}
+use Rattle.forest.specs.Forest.{depthOf, ancestorOf, isAncestor, parentFits, chainEnds}
 use Rattle.forest.specs.Fits.{DepthsFilled}
 
 -- The parents of a file that passed 14 and has them all
@@ -62,3 +62,14 @@ pub record ParentsTested (s depths : List ℕ) (r : Bool) : Type 0 where
 pub record AncestorRead (s : List ℕ) (v k r : ℕ) : Type 0 where
   pub is : r ≡ ancestorOf s v k
   pub on-map : r < junctionsOf s
+
+-- A number in the table that is below n is a junction below the one whose foot it is, or that itself
+pub record FeetRight (s feet : List ℕ) : Type 0 where
+  pub places : length feet ≡ 1024
+  pub right : (x : ℕ) → x < junctionsOf s → getD feet x 0 < junctionsOf s → isAncestor s x (getD feet x 0) ≡ true
+
+-- u and v have one foot, and u is no deeper
+pub record OneFoot (depths feet : List ℕ) (n u v : ℕ) : Type 0 where
+  pub known : getD feet u 0 < n
+  pub same : getD feet v 0 ≡ getD feet u 0
+  pub no-deeper : getD depths u 0 ≤ getD depths v 0

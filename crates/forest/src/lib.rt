@@ -1,2 +1,3 @@
 // The forest of a label file: its parents, read once, and their depths.
+pub mod feet;
 pub mod parents;

@@ -1,4 +1,7 @@
 // The parents of the label file: depths, ancestors, and what 15 and 16 ask of them.
+use crate::feet::NO_CHILD;
+use crate::feet::fill_feet;
+use crate::feet::is_above;
 use network::bytes::u16_at;
 use network::bytes::u32_at;
 ghost use mathlib.Core.Path.{_≡_};
@@ -21,9 +24,10 @@ ghost use Rattle.forest.specs.ParentsRead.{
   DepthSettled,
   ParentsTested,
   AncestorRead,
+  FeetRight,
 };
 
-const NO_PARENT: u32 = 65535;
+pub const NO_PARENT: u32 = 65535;
 
 pub fn parent_at(labels: &[u8], v: usize) -> u32
     requires { ⌜ 18 + 2 * v ≤ length (now labels) ⌝ }
@@ -191,20 +195,21 @@ pub fn is_ancestor(labels: &[u8], depths: &[u32; 1024], u: usize, v: usize) -> b
     ancestor_of(labels, v, steps as usize) == u
 }
 
-fn road_joins(net: &[u8], labels: &[u8], depths: &[u32; 1024], k: usize) -> bool
+fn road_joins(net: &[u8], labels: &[u8], depths: &[u32; 1024], feet: &[u16; 1024], k: usize) -> bool
     requires { ⌜ NetworkFits (now net) ⌝ }
     requires { ⌜ junctionsOf (now net) ≡ junctionsOf (now labels) ⌝ }
     requires { ⌜ ParentsFit (now labels) ⌝ }
     requires { ⌜ DepthsFilled (now labels) (now depths) ⌝ }
+    requires { ⌜ FeetRight (now labels) (now feet) ⌝ }
     requires { ⌜ k < roadsOf (now net) ⌝ }
     ensures { λ r. ⌜ r ≡ roadJoins (now (net .entry)) (now (labels .entry)) k ⌝ }
 {
     let low = u16_at(net, 16 + 8 * k) as usize;
     let high = u16_at(net, 18 + 8 * k) as usize;
-    if is_ancestor(labels, depths, low, high) {
+    if is_above(labels, depths, feet, low, high) {
         return true;
     }
-    is_ancestor(labels, depths, high, low)
+    is_above(labels, depths, feet, high, low)
 }
 
 // Whether every road joins an ancestor and a descendant, as 16 asks.
@@ -215,10 +220,12 @@ pub fn roads_join(net: &[u8], labels: &[u8], depths: &[u32; 1024]) -> bool
     requires { ⌜ DepthsFilled (now labels) (now depths) ⌝ }
     ensures { λ r. ⌜ r ≡ every (roadJoins (now (net .entry)) (now (labels .entry))) (roadsOf (now (net .entry))) ⌝ }
 {
+    let mut feet: [u16; 1024] = [NO_CHILD; 1024];
+    fill_feet(labels, &mut feet);
     let roads = u32_at(net, 8) as usize;
     let mut k: usize = 0;
     while k < roads {
-        if !road_joins(net, labels, depths, k) {
+        if !road_joins(net, labels, depths, &feet, k) {
             return false;
         }
         k += 1;
