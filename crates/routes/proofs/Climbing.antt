@@ -17,7 +17,8 @@ use Rattle.stored.specs.ListForm.{mostBytes}
 use Rattle.stored.specs.Formed.{Formed, StartsFilled, ListFits}
 use Rattle.hoplinks.proofs.Branches.{SideBySide, side-start, side-met, side-more}
 use Rattle.query.specs.Levels.{behind}
-use Rattle.query.proofs.MarkedSums.{level-next, level-fits, count-inside}
+use Rattle.query.proofs.ListPlaces.{count-stands}
+use Rattle.query.proofs.MarkedSums.{level-next, level-fits}
 use Rattle.routes.specs.Climbing.{OneUp, OnClimb, MeetsWith}
 
 -- Of `steps` steps up from v, k are made
@@ -37,7 +38,7 @@ module _ {s : List ℕ} (formed : Formed s) {v : ℕ} (on-map : v < junctionsOf 
   module _ {up own next : ℕ} (now : OnClimb s v up own next) (deep : 1 ≤ depthOf s up) where
     -- below a root there is a parent and a next list
     pub climb-inside : up < junctionsOf s → (18 + 2 * up ≤ length s) × ((next + 2 ≤ length s) × (length s ≤ mostBytes))
-    climb-inside up-on-map = (omega (arith, formed .parents .inside), (count-inside list-here, formed .few-bytes))
+    climb-inside up-on-map = (omega (arith, formed .parents .inside), (count-stands list-here, formed .few-bytes))
       where
         above : depthOf s up ≡ suc (depthOf s up - 1)
         above = omega arith
