@@ -201,7 +201,7 @@ fn sweep(
     true
 }
 
-// Is every stored list the trade-off list of its two junctions?
+// Is every stored list the trade-off list of its two junctions? Reading places and marks are lent by the caller.
 pub fn exact(
     net: &[u8],
     labels: &[u8],
@@ -209,16 +209,18 @@ pub fn exact(
     starts: &[u32; 1024],
     heads: &[u32; 1024],
     nexts: &[u32; 8192],
+    places: &mut [u32; 1024],
+    marks: &mut [u8; 4096],
 ) -> bool
     requires { ⌜ Beside (now net) (now labels) ⌝ }
     requires { ⌜ Tables (now net) (now labels) (now depths) (now starts) (now heads) (now nexts) ⌝ }
+    requires { ⌜ length (now places) ≡ 1024 ⌝ }
+    requires { ⌜ Unmarked (now marks) ⌝ }
     ensures { λ r. ⌜ Decides (EveryListRight (now (net .entry)) (now (labels .entry))) r ⌝ }
 {
     let mut spots: [u32; 1024] = [0; 1024];
     let mut sizes: [u32; 1024] = [0; 1024];
     let mut order: [u32; 1024] = [0; 1024];
-    let mut places: [u32; 1024] = [0; 1024];
-    let mut marks: [u8; 4096] = [0; 4096];
     number(labels, depths, &mut spots, &mut sizes, &mut order);
     sweep(
         net,
@@ -230,7 +232,7 @@ pub fn exact(
         &spots,
         &sizes,
         &order,
-        &mut places,
-        &mut marks,
+        places,
+        marks,
     )
 }

@@ -19,6 +19,9 @@ pub fn accept(
     requires { ⌜ (length (now depths) ≡ 1024) × (length (now starts) ≡ 1024) × (length (now heads) ≡ 1024) × (length (now nexts) ≡ 8192) ⌝ }
     ensures { λ r. ⌜ Accepting (now (net .entry)) (now (labels .entry)) r (now (depths .exit)) (now (starts .exit)) (now (heads .exit)) (now (nexts .exit)) ⌝ }
 {
+    // Made and used first of all, so that the compiler makes the frame at the start.
+    let mut places: [u32; 1024] = [0; 1024];
+    let mut marks: [u8; 4096] = [0; 4096];
     let number = net_number(net);
     if number != 0 {
         return number;
@@ -28,7 +31,16 @@ pub fn accept(
         return form;
     }
     group_roads(net, heads, nexts);
-    if exact(net, labels, depths, starts, heads, nexts) {
+    if exact(
+        net,
+        labels,
+        depths,
+        starts,
+        heads,
+        nexts,
+        &mut places,
+        &mut marks,
+    ) {
         return 0;
     }
     18

@@ -1,6 +1,4 @@
--- The junctions are numbered, and the sweep begins where no mark is set.
-use mathlib.Core.Path.{refl}
-use lib.ListN.{getD-replicate}
+-- The junctions are numbered, and the sweep begins.
 use borrow.Author.Needs.{needs}
 use Rattle.exact.proofs.sweep.exact.Statement.{statement}
 use Rattle.exact.proofs.sweep.exact.Tie as tie
@@ -11,8 +9,8 @@ number-requires c κs = search needs
 sweep-requires : tie.Need-sweep-requires
 sweep-requires c κs =
     let pre = c .before .before .before .before .before .before .before .before .before .before .before .pre in (
-      record { beside = pre .0; tables = pre .1; numbered = c .before .before .before .before .before .number .ensures },
-      (refl, record { marks-places = refl; each = λ i below. getD-replicate 4096 i 0 0 below }),
+      record { beside = pre .0; tables = pre .1 .0; numbered = c .before .before .before .before .before .number .ensures },
+      pre .1 .1,
     )
 
 returns : tie.Need-returns

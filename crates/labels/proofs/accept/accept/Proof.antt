@@ -1,4 +1,6 @@
 -- `labels::accept::accept` is right: each way through it is one law of `Accepts`.
+use mathlib.Core.Path.{refl}
+use lib.ListN.{getD-replicate}
 use borrow.Author.Needs.{needs}
 use Rattle.labels.proofs.Accepts.{form-passes, network-refuses, network-passes, labels-refuse, tables-filled, all-right, some-wrong}
 use Rattle.labels.proofs.accept.accept.Statement.{statement}
@@ -20,7 +22,10 @@ group-roads-requires : tie.Need-group-roads-requires
 group-roads-requires c κs = search (network-passes)
 
 exact-requires : tie.Need-exact-requires
-exact-requires c κs = (search (form-passes), search (tables-filled))
+exact-requires c κs = (
+  search (form-passes),
+  (tables-filled (c .before .before .before .before .before .before .before .before .before .before .form-beside .ensures) (c .before .before .before .before .before .before .before .before .before .if2 .left) (c .before .before .before .before .before .before .group-roads .ensures), (refl, record { marks-places = refl; each = λ i below. getD-replicate 4096 i 0 0 below })),
+)
 
 returns-3 : tie.Need-returns-3
 returns-3 c = search (all-right)
