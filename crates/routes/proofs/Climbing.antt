@@ -6,15 +6,14 @@ use Prim.Native.Nat.{ℕ, suc, _+_, _-_, _*_, _≤_, _<_}
 use native.Mathlib.Omega.{arith}
 use lib.ListN.{length, getD}
 use Rattle.network.specs.NetworkFile.{junctionsOf}
-use Rattle.network.specs.Reads.{ReadU16}
 use Rattle.forest.specs.LabelFile.{parentAt, listEnd}
 use Rattle.forest.specs.Forest.{depthOf, ancestorOf}
 use Rattle.forest.specs.Fits.{DepthsFilled}
 use Rattle.forest.specs.ParentsRead.{AncestorRead}
-use Rattle.forest.proofs.Chains.{Climbed, climbed, one-up, depth-some, ancestor-none, ancestor-more}
-use Rattle.stored.specs.Stored.{listsBefore, placeOf, startOf}
+use Rattle.forest.proofs.Chains.{climbed, one-up, depth-some, ancestor-none, ancestor-more}
+use Rattle.stored.specs.Stored.{placeOf, startOf}
 use Rattle.stored.specs.ListForm.{mostBytes}
-use Rattle.stored.specs.Formed.{Formed, StartsFilled, ListFits}
+use Rattle.stored.specs.Formed.{Formed, ListFits}
 use Rattle.hoplinks.proofs.Branches.{SideBySide, side-start, side-met, side-more}
 use Rattle.query.specs.Levels.{behind}
 use Rattle.query.proofs.ListPlaces.{count-stands}

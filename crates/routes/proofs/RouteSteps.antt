@@ -1,9 +1,8 @@
 -- One step of the first route: of the roads of a junction, the first in file order after which the rest can be spent begins it.
 -- In this order: what is left after a road; the search for the road; the step.
 use mathlib.Core.Path.{_≡_, refl, sym, ap, ap₂, _∙_}
-use mathlib.Core.Logic.{_↔_}
 use mathlib.Core.Bool.{Bool, true, false}
-use mathlib.Core.List.{List, [], _∷_}
+use mathlib.Core.List.{List, _∷_}
 use Prim.Native.Nat.{ℕ, suc, _+_, _-_, _≤_, _<_}
 use native.Mathlib.Decide.{decLe, ℕ-discrete}
 use native.Mathlib.Omega.{arith}
@@ -16,14 +15,14 @@ use Rattle.paths.specs.TradeOff.{Skyline}
 use Rattle.paths.specs.Route.{FirstRoute}
 use Rattle.paths.proofs.Figures.{number-lawful}
 use Rattle.paths.proofs.Weights.{weights-lawful, ⊕-cancel-eq-right}
-use Rattle.paths.proofs.RouteStep.{RestWanted, Smallest, firstAmong-same, first-step, rest-of-only-arc, covering-spends, rest-skyline}
+use Rattle.paths.proofs.RouteStep.{Smallest, firstAmong-same, first-step, rest-of-only-arc, covering-spends, rest-skyline}
 use Rattle.network.specs.NetworkFile.{junctionsOf, roadsOf, roadTime, roadEnergy, RoadArc, networkOf}
 use Rattle.network.specs.Roads.{touches, otherEnd, nextRoad, Grouped}
 use Rattle.network.specs.RoadsRead.{NextsFilled}
 use Rattle.network.specs.Fits.{NetworkFits}
 use Rattle.network.proofs.Arcs.{one-weight}
 use Rattle.network.proofs.GroupedRoads.{nexts-filled}
-use Rattle.network.proofs.RoadsAt.{nextRoad-low, nextRoad-bound, nextRoad-touches, nextRoad-passed, touches-arc, arc-touches, others-rise}
+use Rattle.network.proofs.RoadsAt.{nextRoad-low, nextRoad-touches, nextRoad-passed, touches-arc, arc-touches, others-rise}
 use Rattle.lists.specs.Cover.{Decides}
 use Rattle.routes.specs.Reach.{PathWithin}
 use Rattle.routes.specs.Steps.{StepFits, StepRoad}

@@ -30,6 +30,6 @@ pub record MeetsWith (s : List ℕ) (x y l near far : ℕ) : Type 0 where
   pub far-place : depthOf s l < depthOf s y → far ≡ behind s y (suc (depthOf s l))
 
 -- Where they meet, or none is common
-abbrev pub Meets : List ℕ → ℕ → ℕ → Met → Type 0
-Meets s x y (At l near far) = MeetsWith s x y l near far
-Meets s x y Nowhere = (u : ℕ) → Common (parentsOf s) x y u → ⊥
+abbrev pub MetWithLists : List ℕ → ℕ → ℕ → Met → Type 0
+MetWithLists s x y (At l near far) = MeetsWith s x y l near far
+MetWithLists s x y Nowhere = (u : ℕ) → Common (parentsOf s) x y u → ⊥

@@ -11,7 +11,7 @@ ghost use Rattle.forest.specs.Fits.{DepthsFilled};
 ghost use Rattle.forest.specs.ParentsRead.{AncestorRead};
 ghost use Rattle.stored.specs.ListForm.{mostBytes};
 ghost use Rattle.stored.specs.Formed.{Formed, StartsFilled};
-ghost use Rattle.routes.specs.Climbing.{OnClimb, OneUp, Meets};
+ghost use Rattle.routes.specs.Climbing.{OnClimb, OneUp, MetWithLists};
 
 // A junction on the way up, the byte of the list for it, and the byte of the list for its parent.
 pub struct Climb {
@@ -79,7 +79,7 @@ fn raised(labels: &[u8], starts: &[u32; 1024], v: usize, steps: u32) -> Climb
 pub fn meet(labels: &[u8], depths: &[u32; 1024], starts: &[u32; 1024], x: usize, y: usize) -> Met
     requires { ⌜ Formed (now labels) × DepthsFilled (now labels) (now depths) × StartsFilled (now labels) (now starts) ⌝ }
     requires { ⌜ (x < junctionsOf (now labels)) × (y < junctionsOf (now labels)) ⌝ }
-    ensures { λ r. ⌜ Meets (now (labels .entry)) x y r ⌝ }
+    ensures { λ r. ⌜ MetWithLists (now (labels .entry)) x y r ⌝ }
 {
     let depth_x = depths[x];
     let depth_y = depths[y];

@@ -1,7 +1,6 @@
 -- Each step goes to the parent and moves on by one list; v is deep enough for all of them.
 use mathlib.Core.Path.{_∙_}
 use Prim.Native.Nat.{_-_}
-use native.Mathlib.Omega.{arith}
 use borrow.Author.Needs.{needs}
 use Rattle.routes.proofs.Climbing.{Rising, rising-start, rising-deep, rising-more, rising-end, climb-inside}
 use Rattle.routes.proofs.climb.raised.Statement.{statement}

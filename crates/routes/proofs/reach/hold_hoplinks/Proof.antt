@@ -1,5 +1,5 @@
 -- The marks are those of the junction held, so they are marked anew only for another one.
-use Rattle.routes.proofs.Searching.{held-same, held-new}
+use Rattle.routes.proofs.Reaching.{held-same, held-new}
 use borrow.Author.Needs.{needs}
 use mathlib.Core.Path.{refl}
 use Rattle.routes.proofs.reach.hold_hoplinks.Statement.{statement}

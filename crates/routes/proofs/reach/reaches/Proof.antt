@@ -2,7 +2,7 @@
 use mathlib.Core.Path.{_∙_}
 use native.Mathlib.Omega.{arith}
 use Rattle.query.proofs.WholeAnswers.{meets-above}
-use Rattle.routes.proofs.Searching.{
+use Rattle.routes.proofs.Reaching.{
   on-labels,
   told-at,
   told-nowhere,

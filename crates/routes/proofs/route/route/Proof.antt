@@ -2,7 +2,7 @@
 use native.Mathlib.Omega.{arith}
 use lib.ListN.{length-set}
 use Rattle.routes.specs.Searched.{Held}
-use Rattle.routes.proofs.Searching.{held-none}
+use Rattle.routes.proofs.Reaching.{held-none}
 use Rattle.routes.proofs.RouteWay.{OnWay, way-start, way-room, way-more, way-less, way-end}
 use borrow.Author.Needs.{needs}
 use Rattle.routes.proofs.route.route.Statement.{statement}

@@ -1,5 +1,4 @@
 -- A road that takes or spends too much does not fit; of any other the answer is whether its other end reaches y within the rest.
-use native.Mathlib.Omega.{arith}
 use Rattle.network.proofs.RoadsAt.{other-on-map}
 use Rattle.routes.proofs.RouteSteps.{not-below, too-slow, too-costly, step-decided}
 use borrow.Author.Needs.{needs}
