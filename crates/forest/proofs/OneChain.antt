@@ -1,20 +1,22 @@
--- Feet: why two junctions above one are related, and the loops that fill in the feet. In this order: two ancestors of one; an ancestor's parent; the table.
+-- Feet: why two junctions above one are related, and the loops over feet.
+-- In this order: two ancestors of one; an ancestor's parent; the table; climbing to a junction with the same foot.
 use mathlib.Core.Path.{_≡_, sym, ap, _∙_}
 use mathlib.Core.Logic.{_⊎_, inl, inr}
-use mathlib.Core.Bool.{Bool, true}
+use mathlib.Core.Bool.{true}
 use mathlib.Core.List.{List}
-use Prim.Native.Nat.{ℕ, _+_, _-_, _≤_, _<_}
+use Prim.Native.Nat.{ℕ, suc, _+_, _-_, _≤_, _<_}
+use native.Mathlib.Decide.{ℕ-discrete}
 use native.Mathlib.Omega.{arith}
 use lib.Dec.{leb, eqb}
-use lib.ListN.{length, getD, set, length-set, replicate, length-replicate, getD-replicate}
-use borrow.Author.Tests.{leb-true, le-leb, eqb-true, eq-eqb}
+use lib.ListN.{getD, set, length-set, replicate, length-replicate, getD-replicate}
+use borrow.Author.Tests.{leb-true, le-leb, lt-leb, eqb-true, eq-eqb, ne-eqb}
 use Rattle.refusals.proofs.Order.{and-both, and-true}
 use Rattle.network.specs.NetworkFile.{junctionsOf}
 use Rattle.forest.specs.LabelFile.{parentAt, noParent}
 use Rattle.forest.specs.Forest.{depthOf, ancestorOf, isAncestor}
 use Rattle.forest.specs.Fits.{ParentsFit, DepthsFilled}
 use Rattle.forest.specs.ParentsRead.{FeetRight, OneFoot}
-use Rattle.forest.proofs.Chains.{IsRoot, ancestor-none, ancestor-add, ancestor-more, one-up}
+use Rattle.forest.proofs.Chains.{IsRoot, Climbed, depth-some, ancestor-none, ancestor-below, ancestor-add, ancestor-more, one-up}
 use Rattle.forest.proofs.ParentLoops.{stored-or-old}
 
 -- what the test of an ancestor tells: it is no deeper, and the climb by the difference meets it
@@ -147,15 +149,62 @@ module _ {s feet : List ℕ} {v u foot : ℕ} (fit : ParentsFit s) (now : Walkin
     pub walking-less : depthOf s parent < depthOf s u
     walking-less = rw is (omega (arith, one-up fit u (now .on-map) no-root .depth))
 
--- junctions with one foot are related
-pub above-by-foot :
-    {s depths feet : List ℕ} {n u v : ℕ} → DepthsFilled s depths → FeetRight s feet → u < junctionsOf s → v < junctionsOf s →
-    n ≡ junctionsOf s → OneFoot depths feet n u v → true ≡ isAncestor s u v
-above-by-foot {s} {depths} {feet} {n} {u} {v} filled feet-right u-below v-below size one =
-    sym (related-by-foot s u v (getD feet u 0) upper lower (omega (arith, filled .depth u u-below, filled .depth v v-below, one .no-deeper)))
-  where
-    upper : isAncestor s u (getD feet u 0) ≡ true
-    upper = feet-right .right u u-below (omega (arith, one .known))
+-- ---- Climbing to a junction with the same foot
 
-    lower : isAncestor s v (getD feet u 0) ≡ true
-    lower = ap (isAncestor s v) (sym (one .same)) ∙ feet-right .right v v-below (omega (arith, one .same, one .known))
+-- The climb from v has come to w, which is below u if v is
+pub record Lifting (s : List ℕ) (u v w : ℕ) : Type 0 where
+  pub on-map : w < junctionsOf s
+  pub same : isAncestor s u w ≡ isAncestor s u v
+
+module _ {s depths : List ℕ} (fit : ParentsFit s) (filled : DepthsFilled s depths) {u : ℕ} (u-below : u < junctionsOf s) where
+  module _ {v w : ℕ} (now : Lifting s u v w) where
+    depths-are : (getD depths u 0 ≡ depthOf s u) × (getD depths w 0 ≡ depthOf s w)
+    depths-are = (filled .depth u u-below, filled .depth w (now .on-map))
+
+    -- a junction with the same foot is below u
+    pub lifting-meets : {feet : List ℕ} {n : ℕ} → FeetRight s feet → n ≡ junctionsOf s → getD depths u 0 < getD depths w 0 → OneFoot feet n u w → true ≡ isAncestor s u v
+    lifting-meets {feet} right size deeper one =
+        sym (related-by-foot s u w (getD feet u 0) upper lower (omega (arith, depths-are))) ∙ now .same
+      where
+        upper : isAncestor s u (getD feet u 0) ≡ true
+        upper = right .right u u-below (omega (arith, one .known))
+
+        lower : isAncestor s w (getD feet u 0) ≡ true
+        lower = ap (isAncestor s w) (sym (one .same)) ∙ right .right w (now .on-map) (omega (arith, one .same, one .known))
+
+    -- at the depth of u only u itself is
+    pub lifting-end : getD depths w 0 ≤ getD depths u 0 → eqb w u ≡ isAncestor s u v
+    unfolding isAncestor
+    lifting-end shallow = level (ℕ-discrete (depthOf s w) (depthOf s u)) ∙ now .same
+      where
+        level : Dec (depthOf s w ≡ depthOf s u) → eqb w u ≡ isAncestor s u w
+        level (yes e) = rw (le-leb (depthOf s u) (depthOf s w) (omega arith), none) (ap (λ x. eqb x u) (sym (ancestor-none s w)))
+          where
+            none : depthOf s w - depthOf s u ≡ 0
+            none = omega arith
+        level (no apart) =
+            rw (lt-leb (depthOf s u) (depthOf s w) (omega (arith, depths-are))) (ne-eqb w u (λ e. apart (ap (depthOf s) e)))
+
+    module _ {parent : ℕ} (deeper : getD depths u 0 < getD depths w 0) (is : parent ≡ parentAt s w) where
+      one-step : Climbed s w 1 (parentAt s w)
+      one-step = one-up fit w (now .on-map) (depth-some s w (omega (arith, depths-are)))
+
+      -- any other is below u if its parent is, which is less deep
+      pub lifting-more : Lifting s u v parent
+      unfolding isAncestor
+      lifting-more = rw is (record { on-map = one-step .on-map; same = lifted ∙ now .same })
+        where
+          steps : depthOf s w - depthOf s u ≡ suc (depthOf s (parentAt s w) - depthOf s u)
+          steps = omega (arith, one-step .depth, depths-are)
+
+          lifted : isAncestor s u (parentAt s w) ≡ isAncestor s u w
+          lifted =
+              rw (
+                le-leb (depthOf s u) (depthOf s w) (omega (arith, depths-are)),
+                le-leb (depthOf s u) (depthOf s (parentAt s w)) (omega (arith, one-step .depth, depths-are)),
+                steps,
+              )
+              (ap (λ x. eqb x u) (sym (ancestor-below s w (depthOf s (parentAt s w) - depthOf s u))))
+
+      pub lifting-less : depthOf s parent < depthOf s w
+      lifting-less = rw is (omega (arith, one-step .depth))

@@ -68,8 +68,7 @@ pub record FeetRight (s feet : List ℕ) : Type 0 where
   pub places : length feet ≡ 1024
   pub right : (x : ℕ) → x < junctionsOf s → getD feet x 0 < junctionsOf s → isAncestor s x (getD feet x 0) ≡ true
 
--- u and v have one foot, and u is no deeper
-pub record OneFoot (depths feet : List ℕ) (n u v : ℕ) : Type 0 where
+-- u and v have one foot
+pub record OneFoot (feet : List ℕ) (n u v : ℕ) : Type 0 where
   pub known : getD feet u 0 < n
   pub same : getD feet v 0 ≡ getD feet u 0
-  pub no-deeper : getD depths u 0 ≤ getD depths v 0

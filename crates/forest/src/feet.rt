@@ -1,11 +1,10 @@
 // The foot of a junction: one below it, or itself, that has no child. Two junctions above one foot are related, and no climb is needed to see it.
 use crate::parents::NO_PARENT;
-use crate::parents::is_ancestor;
 use crate::parents::parent_at;
 use network::bytes::u16_at;
 ghost use mathlib.Core.Path.{_≡_};
 ghost use mathlib.Core.Bool.{true};
-ghost use Prim.Native.Nat.{_≤_, _<_};
+ghost use Prim.Native.Nat.{_<_};
 ghost use Rattle.network.specs.NetworkFile.{junctionsOf};
 ghost use Rattle.forest.specs.Forest.{isAncestor};
 ghost use Rattle.forest.specs.Fits.{ParentsFit, DepthsFilled};
@@ -89,22 +88,19 @@ pub fn fill_feet(labels: &[u8], feet: &mut [u16; 1024])
     }
 }
 
-// Whether u and v have one foot, and u is no deeper.
-fn one_foot(depths: &[u32; 1024], feet: &[u16; 1024], n: u32, u: usize, v: usize) -> bool
+// Whether u and v have one foot.
+fn one_foot(feet: &[u16; 1024], n: u32, u: usize, v: usize) -> bool
     requires { ⌜ (u < 1024) × (v < 1024) ⌝ }
-    ensures { λ r. ⌜ (r ≡ true → OneFoot (now (depths .entry)) (now (feet .entry)) n u v) ⌝ }
+    ensures { λ r. ⌜ (r ≡ true → OneFoot (now (feet .entry)) n u v) ⌝ }
 {
     let foot = wide(feet[u]);
     if foot >= n {
         return false;
     }
-    if wide(feet[v]) != foot {
-        return false;
-    }
-    depths[u] <= depths[v]
+    wide(feet[v]) == foot
 }
 
-// Whether u is v or an ancestor of v, with a climb only where they have no foot in common.
+// Whether u is v or an ancestor of v. The climb from v is over where it meets a junction that has its foot in common with u.
 pub fn is_above(labels: &[u8], depths: &[u32; 1024], feet: &[u16; 1024], u: usize, v: usize) -> bool
     requires { ⌜ ParentsFit (now labels) ⌝ }
     requires { ⌜ DepthsFilled (now labels) (now depths) ⌝ }
@@ -113,8 +109,14 @@ pub fn is_above(labels: &[u8], depths: &[u32; 1024], feet: &[u16; 1024], u: usiz
     requires { ⌜ v < junctionsOf (now labels) ⌝ }
     ensures { λ r. ⌜ r ≡ isAncestor (now (labels .entry)) u v ⌝ }
 {
-    if one_foot(depths, feet, u16_at(labels, 6), u, v) {
-        return true;
+    let n = u16_at(labels, 6);
+    let mut w = v;
+    while depths[u] < depths[w] {
+        if one_foot(feet, n, u, w) {
+            return true;
+        }
+        let parent = parent_at(labels, w);
+        w = parent as usize;
     }
-    is_ancestor(labels, depths, u, v)
+    w == u
 }

@@ -1,7 +1,7 @@
--- The three tests are the three facts.
+-- The two tests are the two facts.
 use mathlib.Core.Bool.{false≢true}
 use native.Mathlib.Omega.{arith}
-use borrow.Author.Tests.{leb-true}
+use borrow.Author.Tests.{eqb-true}
 use borrow.Author.Needs.{needs}
 use Rattle.forest.proofs.feet.one_foot.Statement.{statement}
 use Rattle.forest.proofs.feet.one_foot.Tie as tie
@@ -28,22 +28,7 @@ wide-requires-2 : tie.Need-wide-requires-2
 wide-requires-2 c κs = search needs
 
 returns-2 : tie.Need-returns-2
-returns-2 c = λ e. absurd (false≢true e)
-
-mul-result : tie.Need-mul-result
-mul-result c = search needs
-
-element-copy-out-result : tie.Need-element-copy-out-result
-element-copy-out-result c = search needs
-
-mul-result-2 : tie.Need-mul-result-2
-mul-result-2 c = search needs
-
-element-copy-out-result-2 : tie.Need-element-copy-out-result-2
-element-copy-out-result-2 c = search needs
-
-returns-3 : tie.Need-returns-3
-returns-3 c = λ e. record { known = omega arith; same = omega arith; no-deeper = leb-true _ _ e }
+returns-2 c = λ e. record { known = omega arith; same = omega (arith, eqb-true (c .wide2 .result) (c .before .before .before .wide .result) e) }
 
 pub one-foot-spec : {M : Type 1} → statement M
 one-foot-spec =
@@ -56,9 +41,4 @@ one-foot-spec =
     mul-wide-2
     element-copy-out-wide-2
     wide-requires-2
-    returns-2
-    mul-result
-    element-copy-out-result
-    mul-result-2
-    element-copy-out-result-2
-    returns-3)
+    returns-2)

@@ -1,6 +1,5 @@
 -- The loop has settled every junction below v; a parent that does not fit and a chain that returns fail.
 use Prim.Native.Nat.{_-_}
-use native.Mathlib.Omega.{arith}
 use Rattle.forest.proofs.ParentLoops.{Filling, tested-misfit, can-climb, filling-start, filling-returns, filling-more, filling-end}
 use borrow.Author.Needs.{needs}
 use Rattle.forest.proofs.parents.fill_depths.Statement.{statement}
