@@ -31,23 +31,16 @@ cast-high c = search needs
 
 is-above-requires : tie.Need-is-above-requires
 is-above-requires c κs =
-    let given = c .before .before .before .before .pre in
-    let stand = given .1 .1 in
-    let low = low-on-map _ _ (given .0) (given .1 .0) _ (stand .1 .1 .1) (c .before .u16-at .ensures .is) in
-    let high = high-on-map _ _ (given .0) (given .1 .0) _ (stand .1 .1 .1) (c .u16-at2 .ensures .is) in
-    (stand .0, (stand .1 .0, (stand .1 .1 .0, (low, high))))
+    let stand = c .before .before .before .before .pre .1 .1 in
+    (stand .0, (stand .1 .0, (stand .1 .1 .0, search (low-on-map, high-on-map, needs))))
 
 returns : tie.Need-returns
 returns c = search (joins-up)
 
 is-above-requires-2 : tie.Need-is-above-requires-2
 is-above-requires-2 c κs =
-    let read = c .before .before in
-    let given = read .before .before .before .before .pre in
-    let stand = given .1 .1 in
-    let low = low-on-map _ _ (given .0) (given .1 .0) _ (stand .1 .1 .1) (read .before .u16-at .ensures .is) in
-    let high = high-on-map _ _ (given .0) (given .1 .0) _ (stand .1 .1 .1) (read .u16-at2 .ensures .is) in
-    (stand .0, (stand .1 .0, (stand .1 .1 .0, (high, low))))
+    let stand = c .before .before .before .before .before .before .pre .1 .1 in
+    (stand .0, (stand .1 .0, (stand .1 .1 .0, search (low-on-map, high-on-map, needs))))
 
 returns-2 : tie.Need-returns-2
 returns-2 c = search (joins-down)
