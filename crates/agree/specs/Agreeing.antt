@@ -38,11 +38,6 @@ pub record Unmarked (marks : List ℕ) : Type 0 where
   pub marks-places : length marks ≡ 4096
   pub each : (i : ℕ) → i < 4096 → getD marks i 0 ≡ 0
 
--- Two lent slices have room for any list
-pub record ListRoom (times energies : List ℕ) : Type 0 where
-  pub times-places : length times ≡ 4096
-  pub energies-places : length energies ≡ 4096
-
 -- What is known where road k of v is followed
 pub record RoadInput (net s places : List ℕ) (v u k : ℕ) : Type 0 where
   pub beside : Beside net s

@@ -24,9 +24,6 @@ use Rattle.hoplinks.specs.Meeting.{MeetsAt}
 pub no-climb : (s : List ℕ) (v from to : ℕ) → from ≤ to → ancestorOf s v (from - to) ≡ v
 no-climb s v from to h = let none : from - to ≡ 0 = omega arith in rw none (ancestor-none s v)
 
-pub raised-none : {s : List ℕ} {v from to : ℕ} → v < junctionsOf s → from ≤ to → AncestorRead s v (from - to) v
-raised-none {s} {v} {from} {to} below h = record { is = sym (no-climb s v from to h); on-map = below }
-
 -- the table has the depth
 pub depth-read : {s depths : List ℕ} {v : ℕ} → DepthsFilled s depths → v < junctionsOf s → getD depths v 0 ≡ depthOf s v
 depth-read {v = v} filled below = filled .depth v below

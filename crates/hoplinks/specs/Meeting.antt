@@ -3,21 +3,15 @@ use mathlib.Core.Path.{_≡_}
 use mathlib.Core.List.{List}
 use Prim.Native.Nat.{ℕ, _-_, _≤_, _<_}
 use lib.ListN.{length, getD}
-use Rattle.paths.specs.Forest.{Common, Deepest, WorkingSet}
+use Rattle.paths.specs.Forest.{Deepest, WorkingSet}
 use Rattle.network.specs.NetworkFile.{networkOf, junctionsOf}
 use Rattle.forest.specs.LabelFile.{parentsOf}
 use Rattle.forest.specs.Forest.{depthOf, ancestorOf}
-use Rattle.hoplinks.specs.declared.Meeting.{Meeting}
-use Rattle.hoplinks.specs.declared.Meeting.the-variants.{At, Nowhere}
 
+-- l is the deepest common ancestor of x and y
 pub record MeetsAt (s : List ℕ) (x y l : ℕ) : Type 0 where
   pub on-map : l < junctionsOf s
   pub deepest : Deepest (parentsOf s) x y l
-
--- The deepest common ancestor of x and y, or none is common
-abbrev pub Meets : List ℕ → ℕ → ℕ → Meeting → Type 0
-Meets s x y (At l) = MeetsAt s x y l
-Meets s x y Nowhere = (u : ℕ) → Common (parentsOf s) x y u → ⊥
 
 -- By depth: 1 for the ancestors of l that are in its working set (the hoplinks, where l is the deepest common ancestor)
 pub record HopMarks (net s : List ℕ) (l : ℕ) (marks : List ℕ) : Type 0 where

@@ -1,10 +1,2 @@
-// What every query on two branches of the forest asks first: where they meet, and which hoplinks stand there.
-
-// Where two branches of the forest meet.
-pub enum Meeting {
-    At(usize),
-    Nowhere,
-}
-
+// Which junctions every path between two branches of the forest meets: the hoplinks, marked by depth.
 pub mod hoplinks;
-pub mod meet;

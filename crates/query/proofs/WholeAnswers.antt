@@ -32,9 +32,7 @@ use Rattle.stored.proofs.Places.{further-place}
 use Rattle.forest.proofs.Chains.{climbed}
 use Rattle.forest.proofs.Forest.{AncestorAt, ancestor-at, ancestor-is-up, above-shallower}
 use Rattle.agree.proofs.Exactness.{below-on-map, stored-fits, roads-two-way, parents-forest, roads-joined}
-use Rattle.hoplinks.specs.declared.Meeting.{Meeting}
-use Rattle.hoplinks.specs.declared.Meeting.the-variants.{At, Nowhere}
-use Rattle.hoplinks.specs.Meeting.{MeetsAt, Meets, HopMarks}
+use Rattle.hoplinks.specs.Meeting.{MeetsAt, HopMarks}
 use Rattle.query.specs.declared.Answer.{Answer}
 use Rattle.query.specs.declared.Between.{Between}
 use Rattle.query.specs.declared.Between.the-variants.{Nothing, List as OneList, Lists as TwoLists}
@@ -197,13 +195,6 @@ module _ {net s depths starts : List ℕ} (prepared : Prepared net s depths star
           }
 
 -- ---- Where two branches meet
-
-module _ (s : List ℕ) (x y : ℕ) where
-  pub meets-at : {l : ℕ} {r : Meeting} → r ≡ At l → Meets s x y r → MeetsAt s x y l
-  meets-at e h = subst (Meets s x y) e h
-
-  pub meets-nowhere : {r : Meeting} → r ≡ Nowhere → Meets s x y r → (u : ℕ) → Common (parentsOf s) x y u → ⊥
-  meets-nowhere e h = subst (Meets s x y) e h
 
 module _ {s : List ℕ} {x y l : ℕ} (meets : MeetsAt s x y l) where
   -- at one of the two: it stands above the other
