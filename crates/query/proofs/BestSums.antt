@@ -79,7 +79,7 @@ pub record ListParts (R P Q : ℕ → ℕ → Type 0) : Type 0 where
   pub second : (n f : ℕ) → Q n f → R n f
 
 -- the same sum among more lists
-sum-more : {s : List ℕ} {P R : ℕ → ℕ → Type 0} {p : Weight} → ((n f : ℕ) → P n f → R n f) → SumIn s P p → SumIn s R p
+pub sum-more : {s : List ℕ} {P R : ℕ → ℕ → Type 0} {p : Weight} → ((n f : ℕ) → P n f → R n f) → SumIn s P p → SumIn s R p
 sum-more more h = record { near = h .near; far = h .far; i = h .i; j = h .j; lists = more (h .near) (h .far) (h .lists); sum = h .sum }
 
 some-more : {s : List ℕ} {P R : ℕ → ℕ → Type 0} → ((n f : ℕ) → P n f → R n f) → SomeSum s P → SomeSum s R
@@ -90,7 +90,7 @@ placed-more {sum = sum} more h = record { lists = more (sum .near) (sum .far) (h
 
 module _ {s : List ℕ} {R P Q : ℕ → ℕ → Type 0} (parts : ListParts R P Q) where
   -- it is of one part or of the other
-  sum-cases : {p : Weight} → SumIn s R p → SumIn s P p ⊎ SumIn s Q p
+  pub sum-cases : {p : Weight} → SumIn s R p → SumIn s P p ⊎ SumIn s Q p
   sum-cases h =
       ⊎-elim
       (λ z. inl (record { near = h .near; far = h .far; i = h .i; j = h .j; lists = z; sum = h .sum }))

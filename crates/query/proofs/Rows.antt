@@ -24,7 +24,7 @@ use Rattle.query.proofs.BestSums.{ListParts, extends-kept, extends-then
 -- ---- One level more
 
 module _ {s : List ℕ} {near far levels n f : ℕ} (near-is : n ≡ further s near levels) (far-is : f ≡ further s far levels) where
-  row-parts : ListParts (Row s near far (levels + 1)) (Row s near far levels) (Only n f)
+  pub row-parts : ListParts (Row s near far (levels + 1)) (Row s near far levels) (Only n f)
   row-parts =
       record {
         cases = λ a b h. pick a b h (ℕ-discrete (h .level) levels);
@@ -40,55 +40,72 @@ module _ {s : List ℕ} {near far levels n f : ℕ} (near-is : n ≡ further s n
 -- ---- The way along them
 
 -- So many levels are done, and the places stand at the lists of the next
-pub record Rowed (s : List ℕ) (near far levels C : ℕ) (known : Best) (done n f : ℕ) (best : Best) : Type 0 where
+pub record Along (s : List ℕ) (near far levels done n f : ℕ) : Type 0 where
   pub few : done ≤ levels
   pub near-is : n ≡ further s near done
   pub far-is : f ≡ further s far done
+
+-- none is done at first
+pub along-none : (s : List ℕ) (near far levels : ℕ) → Along s near far levels 0 near far
+along-none s near far levels = record { few = omega arith; near-is = sym (further-none s near); far-is = sym (further-none s far) }
+
+module _ {s : List ℕ} {near far levels done n f : ℕ} (now : Along s near far levels done n f) (row : RowFits s near far levels) (turn : done < levels) where
+  -- both lists of the level fit
+  pub along-near : ListFits s n
+  along-near = rw (now .near-is) (row .near-fits done turn)
+
+  pub along-far : ListFits s f
+  along-far = rw (now .far-is) (row .far-fits done turn)
+
+  -- so a step leads from each to the next
+  pub near-next : (n + 2 ≤ length s) × (length s ≤ mostBytes)
+  near-next = (count-stands along-near, row .few-bytes)
+
+  pub far-next : (f + 2 ≤ length s) × (length s ≤ mostBytes)
+  far-next = (count-stands along-far, row .few-bytes)
+
+  pub along-more : {n′ f′ : ℕ} → n′ ≡ listEnd s n → f′ ≡ listEnd s f → Along s near far levels (done + 1) n′ f′
+  along-more is-near is-far =
+      record {
+        few = omega arith;
+        near-is = is-near ∙ ap (listEnd s) (now .near-is) ∙ sym (further-next s near done);
+        far-is = is-far ∙ ap (listEnd s) (now .far-is) ∙ sym (further-next s far done);
+      }
+
+-- at the end all are done
+pub along-all : {s : List ℕ} {near far levels done n f : ℕ} → Along s near far levels done n f → levels ≤ done → done ≡ levels
+along-all now h = omega (arith, now .few)
+
+-- What is known after the levels that are done
+pub record Rowed (s : List ℕ) (near far levels C : ℕ) (known : Best) (done n f : ℕ) (best : Best) : Type 0 where
+  pub along : Along s near far levels done n f
   pub so-far : Extends s (Row s near far done) C known best
 
 -- none is done at first
 pub rowed-none : (s : List ℕ) (near far levels C : ℕ) (known : Best) → Rowed s near far levels C known 0 near far known
 rowed-none s near far levels C known =
     record {
-      few = omega arith;
-      near-is = sym (further-none s near);
-      far-is = sym (further-none s far);
+      along = along-none s near far levels;
       so-far = extends-kept (λ some. omega (arith, some .among .lists .below));
     }
 
 module _ {s : List ℕ} {near far levels C : ℕ} {known : Best} {done n f : ℕ} {best : Best} (now : Rowed s near far levels C known done n f best)
     (row : RowFits s near far levels) (turn : done < levels) where
-  -- both lists of the level fit
-  pub rowed-near : ListFits s n
-  rowed-near = rw (now .near-is) (row .near-fits done turn)
-
-  pub rowed-far : ListFits s f
-  rowed-far = rw (now .far-is) (row .far-fits done turn)
-
-  -- so a step leads from each to the next
-  pub near-next : (n + 2 ≤ length s) × (length s ≤ mostBytes)
-  near-next = (count-stands rowed-near, row .few-bytes)
-
-  pub far-next : (f + 2 ≤ length s) × (length s ≤ mostBytes)
-  far-next = (count-stands rowed-far, row .few-bytes)
-
   -- one level more is done
   pub rowed-more :
       {n′ f′ : ℕ} {best′ : Best} → Extends s (Only n f) C best best′ → n′ ≡ listEnd s n → f′ ≡ listEnd s f →
       Rowed s near far levels C known (done + 1) n′ f′ best′
   rowed-more here is-near is-far =
       record {
-        few = omega arith;
-        near-is = is-near ∙ ap (listEnd s) (now .near-is) ∙ sym (further-next s near done);
-        far-is = is-far ∙ ap (listEnd s) (now .far-is) ∙ sym (further-next s far done);
-        so-far = extends-then (row-parts (now .near-is) (now .far-is)) (now .so-far) here;
+        along = along-more (now .along) row turn is-near is-far;
+        so-far = extends-then (row-parts (now .along .near-is) (now .along .far-is)) (now .so-far) here;
       }
 
 -- all are done
 pub rowed-all :
     {s : List ℕ} {near far levels C : ℕ} {known : Best} {done n f : ℕ} {best : Best} → Rowed s near far levels C known done n f best → levels ≤ done →
     Extends s (Row s near far levels) C known best
-rowed-all {levels = levels} {done = done} now h = let all : done ≡ levels = omega (arith, now .few) in rw all at (now .so-far)
+rowed-all now h = rw (along-all (now .along) h) at (now .so-far)
 
 -- ---- What they answer
 

@@ -360,6 +360,18 @@ module _ (s : List ℕ) (x y : ℕ) where
 pub list-between-fits : {s : List ℕ} {x y at : ℕ} → Formed s → ListBetween s x y at → ListFits s at
 list-between-fits formed one = ⊎-elim (λ h. rw (h .1) (stored-fits formed (h .0))) (λ h. rw (h .1) (stored-fits formed (h .0))) (one .either)
 
+-- and is their trade-off list, whichever of the two it is stored with
+pub list-between-right :
+    {net s depths starts : List ℕ} {x y at : ℕ} → Prepared net s depths starts → ListBetween s x y at → IsTradeOff (networkOf net) x y (listAt s at)
+unfolding stored
+list-between-right {net} {s} {x = x} {y} {at} prepared one = ⊎-elim up down (one .either)
+  where
+    up : Above (parentsOf s) y x × (at ≡ listPlace s x y) → IsTradeOff (networkOf net) x y (listAt s at)
+    up h = rw (h .1) (stored-up prepared (h .0))
+
+    down : Above (parentsOf s) x y × (at ≡ listPlace s y x) → IsTradeOff (networkOf net) x y (listAt s at)
+    down h = rw (h .1) (stored-down prepared (h .0))
+
 -- ---- The answers of a query
 
 module _ {net s depths starts : List ℕ} (prepared : Prepared net s depths starts) {x y : ℕ} (x-on-map : x < junctionsOf s)
@@ -382,14 +394,7 @@ module _ {net s depths starts : List ℕ} (prepared : Prepared net s depths star
   module _ {C : ℕ} {r : Answer} where
     -- a junction and one above it, either way round
     pub answer-list : {at : ℕ} → ListBetween s x y at → AnswerFrom (EntryOf (listAt s at)) C r → Answers net x y C (numberOf r) (timeOf r) (energyOf r)
-    unfolding stored
-    answer-list {at} one answer = stands-answer (tradeOff-stands (⊎-elim up down (one .either))) x-on-net y-on-net answer
-      where
-        up : Above (parentsOf s) y x × (at ≡ listPlace s x y) → IsTradeOff (networkOf net) x y (listAt s at)
-        up h = rw (h .1) (stored-up prepared (h .0))
-
-        down : Above (parentsOf s) x y × (at ≡ listPlace s y x) → IsTradeOff (networkOf net) x y (listAt s at)
-        down h = rw (h .1) (stored-down prepared (h .0))
+    answer-list one answer = stands-answer (tradeOff-stands (list-between-right prepared one)) x-on-net y-on-net answer
 
     -- two branches
     pub answer-lists :

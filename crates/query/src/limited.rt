@@ -53,7 +53,7 @@ fn told(best: Best) -> Answer
 }
 
 // The answer of the lists at two bytes and those behind them, so many on each side.
-fn from_lists(labels: &[u8], near: usize, far: usize, levels: u32, limit: Energy) -> Answer
+pub fn from_lists(labels: &[u8], near: usize, far: usize, levels: u32, limit: Energy) -> Answer
     requires { ⌜ RowFits (now labels) near far levels ⌝ }
     ensures { λ r. ⌜ AnswerFrom (SumIn (now (labels .entry)) (Row (now (labels .entry)) near far levels)) (limit .0) r ⌝ }
 {

@@ -3,3 +3,4 @@ pub mod climb;
 pub mod list;
 pub mod reach;
 pub mod route;
+pub mod spans;

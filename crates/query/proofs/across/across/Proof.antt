@@ -1,6 +1,6 @@
 -- Each turn takes what is known further by one level.
 use Prim.Native.Nat.{_-_}
-use Rattle.query.proofs.Rows.{Rowed, rowed-none, rowed-near, rowed-far, near-next, far-next, rowed-more, rowed-all}
+use Rattle.query.proofs.Rows.{Rowed, along-near, along-far, near-next, far-next, rowed-none, rowed-more, rowed-all}
 use borrow.Author.Needs.{needs}
 use Rattle.query.proofs.across.across.Statement.{statement}
 use Rattle.query.proofs.across.across.Tie as tie
@@ -17,13 +17,13 @@ loop-holds c = rowed-none _ _ _ _ _ _
 at-level-requires : tie.Need-at-level-requires Inv-loop μ-loop
 at-level-requires c κs =
     let row = c .before .before .before .pre in
-    (rowed-near (c .before .loop .inv) row (c .loop-test .taken), rowed-far (c .before .loop .inv) row (c .loop-test .taken))
+    (along-near (c .before .loop .inv .along) row (c .loop-test .taken), along-far (c .before .loop .inv .along) row (c .loop-test .taken))
 
 next-requires : tie.Need-next-requires Inv-loop μ-loop
-next-requires c κs = let turn = c .before in near-next (turn .before .loop .inv) (turn .before .before .before .pre) (turn .loop-test .taken)
+next-requires c κs = let turn = c .before in near-next (turn .before .loop .inv .along) (turn .before .before .before .pre) (turn .loop-test .taken)
 
 next-requires-2 : tie.Need-next-requires-2 Inv-loop μ-loop
-next-requires-2 c κs = let turn = c .before .before in far-next (turn .before .loop .inv) (turn .before .before .before .pre) (turn .loop-test .taken)
+next-requires-2 c κs = let turn = c .before .before in far-next (turn .before .loop .inv .along) (turn .before .before .before .pre) (turn .loop-test .taken)
 
 add-done : tie.Need-add-done Inv-loop μ-loop
 add-done c = search needs
