@@ -44,7 +44,7 @@
  *
  * Remarks
  *   No call takes memory from the heap, keeps state between calls or fails to return: calls from several threads do not meet.
- *   A call takes less than 256 KB of the caller's stack, which a thread made with a small stack must have.
+ *   A call takes less than 128 KB of the caller's stack, which a thread made with a small stack must have.
  *   bushelvane_batch, bushelvane_route and bushelvane_list each run the whole check first: many queries belong in one batch.
  */
 #ifndef BUSHELVANE_H

@@ -19,7 +19,7 @@
 //! | 41, 42 | join: two slices of a list differ in length; a list out of form |
 //!
 //! The static library must be built first (`rt staticlib labels_c`). It is looked for in `target/staticlib` of the project around
-//! this crate, or in the folder that the variable `BUSHELVANE_LIB_DIR` names. A call takes up to 256 KB of stack, and no heap.
+//! this crate, or in the folder that the variable `BUSHELVANE_LIB_DIR` names. A call takes up to 128 KB of stack, and no heap.
 //!
 //! ```
 //! // Two junctions and one road between them, of 3 seconds and 4 units: 24 and 30 bytes.

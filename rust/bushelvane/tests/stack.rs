@@ -1,4 +1,4 @@
-//! Every call ends well on a thread whose whole stack is 256 KB: its arrays do not grow with the files.
+//! Every call ends well on a thread whose whole stack is 128 KB: its arrays do not grow with the files.
 
 use bushelvane::{List, batch, check, join, limited_join, list, route, show};
 
@@ -8,7 +8,7 @@ const LABELS: &[u8] =
     b"TLB\x01\0\0\x02\0\x01\0\0\0\x07\0\0\0\x01\0\xff\xff\x01\0\x03\0\0\0\x04\0\0\0";
 
 fn on_small_stack(call: fn() -> u32) -> u32 {
-    let thread = std::thread::Builder::new().stack_size(256 * 1_024);
+    let thread = std::thread::Builder::new().stack_size(128 * 1_024);
     let running = thread.spawn(call).expect("a thread can be made");
     running.join().expect("the call does not panic")
 }
