@@ -19,7 +19,7 @@ ghost use Rattle.lists.specs.Entries.{Weight};
 ghost use Rattle.network.specs.NetworkFile.{junctionsOf, networkOf};
 ghost use Rattle.query.specs.Prepared.{Prepared};
 ghost use Rattle.query.specs.Between.{ListsBetween};
-ghost use Rattle.routes.specs.Spans.{NoSpan};
+ghost use Rattle.routes.specs.Spans.{spanSeconds, NoSpan};
 ghost use Rattle.routes.specs.Written.{ListWritten};
 
 // More than the energy of any entry.
@@ -47,17 +47,18 @@ fn count_joined(
     near: usize,
     far: usize,
     levels: u32,
+    leasts: &mut [u32; 2048],
 ) -> u32
     requires { ⌜ Prepared (now net) (now labels) (now depths) (now starts) ⌝ }
     requires { ⌜ ListsBetween (now labels) x y near far levels ⌝ }
+    requires { ⌜ length (now leasts) ≡ spanSeconds ⌝ }
     ensures { λ r. ⌜ ((l : List Weight) → IsTradeOff (networkOf (now (net .entry))) x y l → r ≡ length l) ⌝ }
 {
-    let mut leasts: [u32; 2048] = [0; 2048];
     let mut span = no_span();
     let mut count: u32 = 0;
     let mut bound: u32 = ABOVE_ALL;
     while bound > 0 {
-        let next = next_below(labels, near, far, levels, Energy(bound), span, &mut leasts);
+        let next = next_below(labels, near, far, levels, Energy(bound), span, leasts);
         let answer = next.answer;
         let Answer::Found(_, units) = answer else {
             return count;
@@ -84,19 +85,20 @@ fn fill_joined(
     count: u32,
     times: &mut [u32],
     energies: &mut [u32],
+    leasts: &mut [u32; 2048],
 )
     requires { ⌜ Prepared (now net) (now labels) (now depths) (now starts) ⌝ }
     requires { ⌜ ListsBetween (now labels) x y near far levels ⌝ }
+    requires { ⌜ length (now leasts) ≡ spanSeconds ⌝ }
     requires { ⌜ ((l : List Weight) → IsTradeOff (networkOf (now net)) x y l → count ≡ length l) ⌝ }
     requires { ⌜ (count ≤ length (now times)) × (count ≤ length (now energies)) ⌝ }
     ensures { λ _. ⌜ ListWritten (now (net .entry)) x y (now (times .entry)) (now (energies .entry)) count (now (times .exit)) (now (energies .exit)) ⌝ }
 {
-    let mut leasts: [u32; 2048] = [0; 2048];
     let mut span = no_span();
     let mut place = count as usize;
     let mut below: u32 = ABOVE_ALL;
     while place > 0 {
-        let next = next_below(labels, near, far, levels, Energy(below), span, &mut leasts);
+        let next = next_below(labels, near, far, levels, Energy(below), span, leasts);
         let answer = next.answer;
         let Answer::Found(time, units) = answer else {
             return;
@@ -123,6 +125,8 @@ pub fn list_count(
     requires { ⌜ (x < junctionsOf (now labels)) × (y < junctionsOf (now labels)) ⌝ }
     ensures { λ r. ⌜ ((l : List Weight) → IsTradeOff (networkOf (now (net .entry))) x y l → r ≡ length l) ⌝ }
 {
+    // Made and used first of all, so that the compiler makes the frame at the start.
+    let mut leasts: [u32; 2048] = [0; 2048];
     if x == y {
         return 1;
     }
@@ -134,7 +138,18 @@ pub fn list_count(
             place.count(labels)
         }
         Between::Lists(near, far, levels) => {
-            count_joined(net, labels, depths, starts, x, y, near, far, levels)
+            count_joined(
+                net,
+                labels,
+                depths,
+                starts,
+                x,
+                y,
+                near,
+                far,
+                levels,
+                &mut leasts,
+            )
         }
     }
 }
@@ -157,6 +172,7 @@ pub fn list_fill(
     requires { ⌜ (count ≤ length (now times)) × (count ≤ length (now energies)) ⌝ }
     ensures { λ _. ⌜ ListWritten (now (net .entry)) x y (now (times .entry)) (now (energies .entry)) count (now (times .exit)) (now (energies .exit)) ⌝ }
 {
+    let mut leasts: [u32; 2048] = [0; 2048];
     if x == y {
         times[0] = 0;
         energies[0] = 0;
@@ -182,6 +198,7 @@ pub fn list_fill(
                 count,
                 times,
                 energies,
+                &mut leasts,
             );
         }
     }

@@ -19,13 +19,13 @@ no-span-requires : tie.Need-no-span-requires Inv-loop μ-loop
 no-span-requires c κs = search needs
 
 loop-holds : tie.Need-loop-holds Inv-loop μ-loop
-loop-holds c = let pre = c .before .before .before .pre in count-start (pre .0) (pre .1) (c .no-span .ensures) (omega arith)
+loop-holds c = let pre = c .before .before .before .pre in count-start (pre .0) (pre .1 .0) (c .no-span .ensures) (pre .1 .1)
 
 next-below-requires : tie.Need-next-below-requires Inv-loop μ-loop
 next-below-requires c κs =
     let loop = c .before .before in
     let pre = loop .before .before .before .before .pre in
-    (row-fits (pre .0) (pre .1), (c .before .loop-test .taken, loop .loop .inv .waits))
+    (row-fits (pre .0) (pre .1 .0), (c .before .loop-test .taken, loop .loop .inv .waits))
 
 enum-known-answer : tie.Need-enum-known-answer Inv-loop μ-loop
 enum-known-answer c = search needs
@@ -35,7 +35,7 @@ returns c =
     let below = c .before in
     let turn = below .before .before in
     let pre = turn .before .before .before .before .before .pre in
-    count-none (pre .0) (pre .1) (turn .before .loop .inv) (turn .loop-test .taken) (below .next-below .ensures) (refused (below .next-below .result .answer) (λ w. found-key (rw (w .is) at (c .match .keys2))))
+    count-none (pre .0) (pre .1 .0) (turn .before .loop .inv) (turn .loop-test .taken) (below .next-below .ensures) (refused (below .next-below .result .answer) (λ w. found-key (rw (w .is) at (c .match .keys2))))
 
 add-count : tie.Need-add-count Inv-loop μ-loop
 add-count c =
@@ -48,7 +48,7 @@ loop-less c =
     let below = known .before .before in
     let turn = below .before .before in
     let pre = turn .before .before .before .before .before .pre in
-    count-less (pre .0) (pre .1) (turn .before .loop .inv) (turn .loop-test .taken) (below .next-below .ensures) (known .answer .given .1)
+    count-less (pre .0) (pre .1 .0) (turn .before .loop .inv) (turn .loop-test .taken) (below .next-below .ensures) (known .answer .given .1)
 
 loop-again : tie.Need-loop-again Inv-loop μ-loop
 loop-again c =
@@ -56,7 +56,7 @@ loop-again c =
     let below = known .before .before in
     let turn = below .before .before in
     let pre = turn .before .before .before .before .before .pre in
-    count-more (pre .0) (pre .1) (turn .before .loop .inv) (turn .loop-test .taken) (below .next-below .ensures) (known .answer .given .1)
+    count-more (pre .0) (pre .1 .0) (turn .before .loop .inv) (turn .loop-test .taken) (below .next-below .ensures) (known .answer .given .1)
 
 returns-2 : tie.Need-returns-2 Inv-loop μ-loop
 returns-2 c = count-end (c .before .loop .inv) (c .loop-test .left)

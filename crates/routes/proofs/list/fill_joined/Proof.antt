@@ -22,7 +22,7 @@ no-span-requires c κs = search needs
 loop-holds : tie.Need-loop-holds Inv-loop μ-loop
 loop-holds c =
     let pre = c .before .before .before .before .before .pre in
-    fill-start (pre .0) (pre .1 .0) (pre .1 .1 .0) (pre .1 .1 .1 .0) (pre .1 .1 .1 .1) (c .no-span .ensures) (omega arith)
+    fill-start (pre .0) (pre .1 .0) (pre .1 .1 .1 .0) (pre .1 .1 .1 .1 .0) (pre .1 .1 .1 .1 .1) (c .no-span .ensures) (pre .1 .1 .0)
 
 next-below-requires : tie.Need-next-below-requires Inv-loop μ-loop
 next-below-requires c κs =
@@ -86,7 +86,7 @@ same-length-4 c = search needs
 returns-2 : tie.Need-returns-2 Inv-loop μ-loop
 returns-2 c =
     let pre = c .before .before .before .before .before .before .before .pre in
-    fill-end (c .before .loop .inv) (c .loop-test .left) (pre .1 .1 .0)
+    fill-end (c .before .loop .inv) (c .loop-test .left) (pre .1 .1 .1 .0)
 
 pub fill-joined-spec : {M : Type 1} → statement M
 fill-joined-spec =

@@ -29,8 +29,8 @@ enum-known-lists-2 c = search needs
 
 count-joined-requires : tie.Need-count-joined-requires
 count-joined-requires c κs =
-    let led = c .before .before .before in
-    (led .before .before .before .before .pre .0, leads-lists _ _ _ (c .before .lists2 .given .1) (led .between .ensures))
+    let led = c .before .before .before .before in
+    (led .before .before .before .before .pre .0, (leads-lists _ _ _ (c .before .before .lists2 .given .1) (led .between .ensures), refl))
 
 returns-2 : tie.Need-returns-2
 returns-2 c =

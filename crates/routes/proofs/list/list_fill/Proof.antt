@@ -1,5 +1,5 @@
 -- A junction and itself, two trees, one above the other, two branches: in each case the list written is the trade-off list.
-use mathlib.Core.Path.{sym}
+use mathlib.Core.Path.{refl, sym}
 use native.Mathlib.Omega.{arith}
 use Rattle.query.proofs.WholeAnswers.{leads-nowhere, leads-list, leads-lists, list-between-fits}
 use Rattle.refusals.proofs.Lent.{filled-none}
@@ -49,10 +49,10 @@ enum-known-lists-2 c = search needs
 
 fill-joined-requires : tie.Need-fill-joined-requires
 fill-joined-requires c κs =
-    let known = c .before .before .before in
+    let known = c .before .before .before .before in
     let led = known .before .before in
     let pre = led .before .before .before .before .before .before .pre in
-    (pre .0, (leads-lists _ _ _ (known .lists2 .given .1) (led .between .ensures), (pre .1 .1 .0, pre .1 .1 .1)))
+    (pre .0, (leads-lists _ _ _ (known .lists2 .given .1) (led .between .ensures), (refl, (pre .1 .1 .0, pre .1 .1 .1))))
 
 returns-2 : tie.Need-returns-2
 returns-2 c =
