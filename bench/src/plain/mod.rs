@@ -1,4 +1,5 @@
-//! The algorithms of the proved functions in plain, safe Rust, with the bounds checks that rustc makes.
+//! The same calls in plain, safe Rust, with the bounds checks that rustc makes: joins and form check by the walks of the proved functions, check and
+//! queries by plainer ones, which load lists, sweep by levels and mark hoplinks for each query.
 //!
 //! None is inlined into the run: a proved function is called through its archive, too.
 
