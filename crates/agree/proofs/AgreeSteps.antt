@@ -12,32 +12,20 @@ use lib.Seq.{getD-set-same, getD-set-other}
 use Rattle.paths.specs.Weights.{weights, energy, pair, Covered}
 use Rattle.paths.proofs.LabelTest.{ListAgrees}
 use Rattle.lists.specs.Entries.{Weight}
-use Rattle.lists.specs.Cover.{Decides}
+use Rattle.refusals.specs.working.Decides.{Decides}
 use Rattle.network.specs.NetworkFile.{networkOf, roadsOf, roadTime, roadEnergy, RoadArc}
-use Rattle.network.specs.Roads.{touches, otherEnd, nextRoad}
+use Rattle.network.specs.working.Roads.{touches, otherEnd, nextRoad}
 use Rattle.network.proofs.RoadsAt.{nextRoad-low, nextRoad-touches, nextRoad-passed, arc-touches}
-use Rattle.network.specs.RoadsRead.{NextsFilled}
-use Rattle.network.specs.Fits.{NetworkFits}
+use Rattle.network.specs.working.RoadsRead.{NextsFilled}
+use Rattle.network.specs.working.Fits.{NetworkFits}
 use Rattle.network.proofs.GroupedRoads.{nexts-filled}
 use Rattle.forest.specs.LabelFile.{parentsOf, countAt}
 use Rattle.stored.specs.Stored.{listPlace, listAt, stored}
-use Rattle.stored.specs.Formed.{ListFits, Beside}
+use Rattle.stored.specs.working.Formed.{ListFits, Beside}
 use Rattle.stored.proofs.Tabulate.{Stands, member-stands, tabulate-member}
-use Rattle.agree.specs.Covering.{Marking, ListRead, entryOf, MetBy, Covering}
-use Rattle.agree.specs.Agreeing.{
-  AgreeInput,
-  Unmarked,
-  RoadInput,
-  Left,
-  Met,
-  RoadCovers,
-  MetOver,
-  RoadTested,
-  AllMarked,
-  Cleared,
-  MarksRead,
-}
-use Rattle.agree.proofs.Exactness.{stored-fits}
+use Rattle.agree.specs.working.Covering.{Marking, ListRead, entryOf, MetBy, Covering}
+use Rattle.agree.specs.working.Agreeing.{AgreeInput, Unmarked, RoadInput, Left, Met, RoadCovers, MetOver, RoadTested, AllMarked, Cleared, MarksRead}
+use Rattle.stored.proofs.Passed.{stored-fits}
 use Rattle.agree.proofs.MergeSteps.{marking-none, marking-as, marking-both}
 use Rattle.agree.proofs.Neighbours.{Leaves, the-arc}
 

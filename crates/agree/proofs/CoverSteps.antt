@@ -14,22 +14,12 @@ use lib.Seq.{getD-set-same, getD-set-other}
 use Rattle.paths.specs.Weights.{energy, pair, time, spent, Covered}
 use Rattle.lists.specs.Entries.{Weight}
 use Rattle.lists.proofs.Entries.{far}
-use Rattle.network.specs.Reads.{ReadU16}
+use Rattle.bytes.specs.working.Reads.{ReadU16}
 use Rattle.forest.specs.LabelFile.{countAt, timeAt, energyAt, listEnd}
 use Rattle.stored.specs.Stored.{listAt}
-use Rattle.stored.specs.Formed.{ListFits}
+use Rattle.stored.specs.working.Formed.{ListFits}
 use Rattle.stored.proofs.Tabulate.{Stands, member-stands, tabulate-member}
-use Rattle.agree.specs.Covering.{
-  Marking,
-  ListRead,
-  entryOf,
-  CoversAt,
-  EqualsAt,
-  EntryCompared,
-  QuickFrom,
-  Behind,
-  SumCompared,
-}
+use Rattle.agree.specs.working.Covering.{Marking, ListRead, entryOf, CoversAt, EqualsAt, EntryCompared, QuickFrom, Behind, SumCompared}
 
 -- ---- A list that fits
 

@@ -1,68 +1,17 @@
 -- The stored lists of a well-formed pair of files are all right exactly if each agrees with those one road further.
--- In this order: where a stored list stands; the stored lists are ordered; the test is exact.
-use mathlib.Core.Path.{_≡_, refl}
 use mathlib.Core.Logic.{_↔_}
-use mathlib.Core.List.{List, List·Memᴰ}
-use Prim.Native.Nat.{ℕ, _+_, _-_, _<_}
-use native.Mathlib.Omega.{arith}
-use Rattle.paths.specs.Weights.{weights, energy, Beats, Rising}
-use Rattle.paths.specs.TradeOff.{Ordered}
-use Rattle.paths.specs.Forest.{Above, IsForest, RoadsJoinRelated}
+use mathlib.Core.List.{List}
+use Prim.Native.Nat.{ℕ}
 use Rattle.paths.proofs.Figures.{number-lawful}
-use Rattle.paths.proofs.OneLimit.{ordered-rises, ordered-none-beaten}
-use Rattle.paths.proofs.TwoWay.{TwoWay}
-use Rattle.paths.proofs.LabelTest.{AllAgree, AllRight, AllOrdered, label-test-exact}
-use Rattle.network.specs.NetworkFile.{networkOf, junctionsOf}
-use Rattle.network.proofs.Arcs.{two-way}
+use Rattle.paths.proofs.LabelTest.{AllAgree, AllRight, label-test-exact}
+use Rattle.network.specs.NetworkFile.{networkOf}
 use Rattle.forest.specs.LabelFile.{parentsOf}
-use Rattle.forest.specs.Forest.{depthOf}
-use Rattle.stored.specs.Stored.{listsBefore, listsOf, placeOf, listPlace, stored}
-use Rattle.stored.specs.Formed.{Formed, ListFits, Beside}
-use Rattle.stored.specs.Scanned.{FoundList}
-use Rattle.forest.proofs.Forest.{HasParent, parents-some, above-shallower, forest, roads-related}
-use Rattle.stored.proofs.Places.{list-number-of, found-fits}
-use Rattle.stored.proofs.Lists.{list-ordered}
-use Rattle.agree.specs.Right.{EveryListRight}
-
--- a junction with an ancestor is on the map
-pub below-on-map : (s : List ℕ) {u v : ℕ} → Above (parentsOf s) u v → v < junctionsOf s
-below-on-map s (Above.parent-is e) = parents-some s e .on-map
-below-on-map s (Above.parent-has e above) = parents-some s e .on-map
-
-module _ {s : List ℕ} (formed : Formed s) where
-  -- the list of a junction and its proper ancestor is one of the file's lists
-  pub stored-stands : {u v : ℕ} → Above (parentsOf s) u v → FoundList s v u (listPlace s v u)
-  unfolding listPlace
-  stored-stands {u} {v} above =
-      record { place = refl; number = listsBefore s v + (depthOf s v - depthOf s u - 1); below = list-number-of s (below-on-map s above) deeper; stands = refl }
-    where
-      deeper : depthOf s v - depthOf s u - 1 < depthOf s v
-      deeper = omega (arith, above-shallower s (formed .parents .ends) above)
-
-  pub stored-fits : {u v : ℕ} → Above (parentsOf s) u v → ListFits s (listPlace s v u)
-  stored-fits above = found-fits formed (stored-stands above)
-
-  pub stored-ordered : {u v : ℕ} → Above (parentsOf s) u v → Ordered (stored s v u)
-  unfolding stored
-  stored-ordered above = list-ordered (stored-fits above)
+use Rattle.stored.specs.Stored.{stored}
+use Rattle.stored.specs.Right.{EveryListRight}
+use Rattle.stored.specs.working.Formed.{Beside}
+use Rattle.stored.proofs.Passed.{roads-two-way, roads-joined, parents-forest, lists-ordered}
 
 module _ {net s : List ℕ} (beside : Beside net s) where
-  pub roads-two-way : TwoWay (networkOf net)
-  roads-two-way = record { back = two-way }
-
-  pub parents-forest : IsForest (parentsOf s)
-  parents-forest = forest (beside .labels .parents)
-
-  pub roads-joined : RoadsJoinRelated (networkOf net) (parentsOf s)
-  roads-joined = roads-related (beside .labels .parents) (beside .network) (beside .one-map) (beside .joins)
-
-  pub lists-ordered : AllOrdered (networkOf net) (parentsOf s) (stored s)
-  lists-ordered =
-      record {
-        rises = λ above. ordered-rises (stored-ordered (beside .labels) above);
-        unbeaten = λ above. ordered-none-beaten (stored-ordered (beside .labels) above);
-      }
-
   -- the test road by road decides whether every list is right
   pub agreeing-is-right : AllAgree (networkOf net) (parentsOf s) (stored s) ↔ EveryListRight net s
   agreeing-is-right = (
@@ -71,4 +20,4 @@ module _ {net s : List ℕ} (beside : Beside net s) where
   )
     where
       exact : AllAgree (networkOf net) (parentsOf s) (stored s) ↔ AllRight (networkOf net) (parentsOf s) (stored s)
-      exact = label-test-exact number-lawful roads-two-way roads-joined parents-forest lists-ordered
+      exact = label-test-exact number-lawful (roads-two-way beside) (roads-joined beside) (parents-forest beside) (lists-ordered beside)

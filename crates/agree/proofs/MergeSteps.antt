@@ -16,17 +16,7 @@ use Rattle.lists.specs.Entries.{Weight}
 use Rattle.forest.specs.LabelFile.{countAt, timeAt, energyAt}
 use Rattle.stored.specs.Stored.{listAt}
 use Rattle.stored.proofs.Tabulate.{Stands, member-stands, tabulate-member}
-use Rattle.agree.specs.Covering.{
-  Marking,
-  ListRead,
-  entryOf,
-  CoversAt,
-  EqualsAt,
-  Behind,
-  SumCompared,
-  MetBy,
-  Covering,
-}
+use Rattle.agree.specs.working.Covering.{Marking, ListRead, entryOf, CoversAt, EqualsAt, Behind, SumCompared, MetBy, Covering}
 use Rattle.agree.proofs.CoverSteps.{energy-rises-far, time-falls-far, covering-alone, covers-member, Somewhere, member-covers, covered-eq, equals-eq}
 
 -- ---- Marks

@@ -12,14 +12,14 @@ use Rattle.paths.proofs.Forest.{above-trans, above-irrefl, ancestor-trans, ance
 use Rattle.paths.proofs.LabelTest.{arrived, below, above}
 use Rattle.lists.specs.Entries.{Weight}
 use Rattle.network.specs.NetworkFile.{junctionsOf, roadTime, roadEnergy, RoadArc}
-use Rattle.network.specs.Roads.{otherEnd}
+use Rattle.network.specs.working.Roads.{otherEnd}
 use Rattle.network.proofs.RoadsAt.{touches-arc, other-on-map}
 use Rattle.forest.specs.LabelFile.{parentsOf}
 use Rattle.forest.proofs.Forest.{above-at}
 use Rattle.stored.specs.Stored.{listAt, stored}
-use Rattle.stored.specs.Formed.{ListFits, Beside}
-use Rattle.agree.specs.Agreeing.{RoadInput, Left}
-use Rattle.agree.proofs.Exactness.{stored-fits, parents-forest, roads-joined}
+use Rattle.stored.specs.working.Formed.{ListFits, Beside}
+use Rattle.agree.specs.working.Agreeing.{RoadInput, Left}
+use Rattle.stored.proofs.Passed.{stored-fits, parents-forest, roads-joined}
 
 -- ---- Neighbours are related
 

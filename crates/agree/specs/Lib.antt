@@ -1,4 +1,2 @@
--- What it is that every stored list is right, and the test of one list. Read in this order.
-pub mod Right
-pub mod Covering
-pub mod Agreeing
+-- Nothing here is part of what the calls promise: `working` has the contracts between functions.
+pub mod working

@@ -1,8 +1,8 @@
 // The test of one stored list: does it agree with the lists one road further?
 use crate::cover::cover_road;
 use crate::cover::cover_stored;
-use network::bytes::u16_at;
-use network::bytes::u32_at;
+use bytes::u16_at;
+use bytes::u32_at;
 use network::roads::next_road;
 use network::roads::other_end;
 use network::roads::road_energy;
@@ -13,12 +13,12 @@ ghost use mathlib.Core.Bool.{true};
 ghost use Prim.Native.Nat.{_≤_};
 ghost use lib.ListN.{length};
 ghost use Rattle.paths.proofs.LabelTest.{ListAgrees};
-ghost use Rattle.lists.specs.Cover.{Decides};
+ghost use Rattle.refusals.specs.working.Decides.{Decides};
 ghost use Rattle.network.specs.NetworkFile.{networkOf};
 ghost use Rattle.forest.specs.LabelFile.{parentsOf};
 ghost use Rattle.stored.specs.Stored.{stored};
-ghost use Rattle.agree.specs.Covering.{ListRead};
-ghost use Rattle.agree.specs.Agreeing.{AgreeInput, Unmarked, RoadInput, RoadTested, MarksRead};
+ghost use Rattle.agree.specs.working.Covering.{ListRead};
+ghost use Rattle.agree.specs.working.Agreeing.{AgreeInput, Unmarked, RoadInput, RoadTested, MarksRead};
 
 // Whether every sum that starts with road k is covered by the own list, of v and u; the entries that a sum equals are marked.
 fn road_agrees(

@@ -1,6 +1,6 @@
 // The covering half of the test: is each sum of a road and an entry of one stored list covered by another? Both lists are read
 // where they stand in the label file; `own` is the byte of the list that covers.
-use network::bytes::u16_at;
+use bytes::u16_at;
 use paths::energy::Energy;
 use paths::seconds::Seconds;
 use stored::stored::energy_at;
@@ -13,8 +13,8 @@ ghost use lib.ListN.{length};
 ghost use Rattle.paths.specs.Weights.{pair};
 ghost use Rattle.forest.specs.LabelFile.{countAt, timeAt, energyAt};
 ghost use Rattle.stored.specs.Stored.{listAt};
-ghost use Rattle.stored.specs.Formed.{ListFits};
-ghost use Rattle.agree.specs.Covering.{ListRead, QuickFrom, EntryCompared, Behind, SumCompared, Covering};
+ghost use Rattle.stored.specs.working.Formed.{ListFits};
+ghost use Rattle.agree.specs.working.Covering.{ListRead, QuickFrom, EntryCompared, Behind, SumCompared, Covering};
 
 // The first own entry from the hint on that is no slower than a time; the count if there is none.
 fn quick_from(labels: &[u8], own: usize, own_count: usize, time: Seconds, hint: usize) -> usize

@@ -10,11 +10,11 @@ use Rattle.paths.specs.Forest.{Above}
 use Rattle.network.specs.NetworkFile.{junctionsOf}
 use Rattle.forest.specs.LabelFile.{parentsOf, listEnd}
 use Rattle.stored.specs.Stored.{listPlace}
-use Rattle.stored.specs.Formed.{ListFits, Formed}
+use Rattle.stored.specs.working.Formed.{ListFits, Formed}
 use Rattle.stored.proofs.Places.{list-takes}
-use Rattle.agree.proofs.Exactness.{below-on-map, stored-fits}
-use Rattle.agree.specs.Agreeing.{PlacesFor}
-use Rattle.exact.specs.Sweep.{BlockOf, MovedOn}
+use Rattle.stored.proofs.Passed.{below-on-map, stored-fits}
+use Rattle.agree.specs.working.Agreeing.{PlacesFor}
+use Rattle.exact.specs.working.Sweep.{BlockOf, MovedOn}
 
 -- Those before spot i have moved
 pub record Moving (s spots : List ℕ) (from i : ℕ) (before now : List ℕ) : Type 0 where

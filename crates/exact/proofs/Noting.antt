@@ -11,13 +11,13 @@ use Rattle.paths.specs.Forest.{Above}
 use Rattle.network.specs.NetworkFile.{junctionsOf}
 use Rattle.forest.specs.LabelFile.{parentAt, parentsOf, listEnd}
 use Rattle.forest.specs.Forest.{depthOf, ancestorOf}
-use Rattle.forest.specs.Fits.{DepthsFilled}
+use Rattle.forest.specs.working.Fits.{DepthsFilled}
 use Rattle.forest.proofs.Chains.{ancestor-none, ancestor-more, climbed}
 use Rattle.forest.proofs.Forest.{above-at, above-is-up, above-shallower}
 use Rattle.stored.specs.Stored.{listsBefore, placeOf, listPlace}
-use Rattle.stored.specs.Formed.{ListFits, Formed, StartsFilled}
+use Rattle.stored.specs.working.Formed.{ListFits, Formed, StartsFilled}
 use Rattle.stored.proofs.Places.{place-next, list-takes, list-number-of}
-use Rattle.exact.specs.Sweep.{Noted}
+use Rattle.exact.specs.working.Sweep.{Noted}
 
 -- The lists for the ancestors of depth k and more are noted; w is the last of them, or u, and the next list is at byte `here`
 pub record Noting (s : List ℕ) (u k w here : ℕ) (before now : List ℕ) : Type 0 where

@@ -16,12 +16,12 @@ use Rattle.forest.specs.Forest.{depthOf}
 use Rattle.forest.proofs.Chains.{depth-parent}
 use Rattle.forest.proofs.Forest.{above-at, above-shallower, parents-some}
 use Rattle.stored.specs.Stored.{listsBefore, placeOf, listPlace}
-use Rattle.stored.specs.Formed.{Formed, StartsFilled}
+use Rattle.stored.specs.working.Formed.{Formed, StartsFilled}
 use Rattle.stored.proofs.Places.{place-next}
-use Rattle.agree.proofs.Exactness.{below-on-map}
-use Rattle.preorder.specs.Numbered.{Numbered}
-use Rattle.agree.specs.Agreeing.{PlacesFor}
-use Rattle.exact.specs.Sweep.{Swept, Noted, MovedOn, BlockOf}
+use Rattle.stored.proofs.Passed.{below-on-map}
+use Rattle.preorder.specs.working.Numbered.{Numbered}
+use Rattle.agree.specs.working.Agreeing.{PlacesFor}
+use Rattle.exact.specs.working.Sweep.{Swept, Noted, MovedOn, BlockOf}
 
 module _ {s : List ℕ} (formed : Formed s) {spots sizes order : List ℕ} (numbered : Numbered s spots sizes order) where
   -- ---- The block of a junction

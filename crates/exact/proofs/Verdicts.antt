@@ -11,17 +11,18 @@ use borrow.Author.Tests.{not-true, not-false}
 use Rattle.paths.specs.Forest.{Above}
 use Rattle.paths.proofs.LabelTest.{AllAgree}
 use Rattle.network.specs.NetworkFile.{networkOf, junctionsOf}
-use Rattle.network.specs.Roads.{Grouped}
-use Rattle.lists.specs.Cover.{Decides}
+use Rattle.network.specs.working.Roads.{Grouped}
+use Rattle.refusals.specs.working.Decides.{Decides}
 use Rattle.forest.specs.LabelFile.{parentsOf}
 use Rattle.forest.proofs.Forest.{above-at}
 use Rattle.stored.specs.Stored.{stored}
-use Rattle.stored.specs.Formed.{Beside}
-use Rattle.agree.specs.Right.{EveryListRight}
-use Rattle.agree.proofs.Exactness.{below-on-map, agreeing-is-right}
-use Rattle.preorder.specs.Numbered.{Numbered}
-use Rattle.agree.specs.Agreeing.{PlacesFor, AgreeInput}
-use Rattle.exact.specs.Sweep.{Agrees, AgreesBelow, BlockOf}
+use Rattle.stored.specs.working.Formed.{Beside}
+use Rattle.stored.specs.Right.{EveryListRight}
+use Rattle.stored.proofs.Passed.{below-on-map}
+use Rattle.agree.proofs.Exactness.{agreeing-is-right}
+use Rattle.preorder.specs.working.Numbered.{Numbered}
+use Rattle.agree.specs.working.Agreeing.{PlacesFor, AgreeInput}
+use Rattle.exact.specs.working.Sweep.{Agrees, AgreesBelow, BlockOf}
 
 -- a statement that holds is decided by true, one that does not by false
 decided-yes : {P : Type 0} → P → Decides P true

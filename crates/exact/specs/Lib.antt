@@ -1,2 +1,2 @@
--- The sweep over the labels, which decides number 18.
-pub mod Sweep
+-- Nothing here is part of what the calls promise: `working` has the contracts between functions.
+pub mod working

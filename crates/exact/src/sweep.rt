@@ -1,8 +1,8 @@
 // The sweep over the labels. The junctions are taken from the last to the first of an order in which each one's descendants stand
 // right behind it. No list is searched for: each junction has a reading place, which moves on by one list for each ancestor swept.
 use agree::agree::list_agrees;
+use bytes::u16_at;
 use forest::parents::parent_at;
-use network::bytes::u16_at;
 use preorder::number::number;
 use stored::place::Place;
 use stored::place::number_of;
@@ -12,16 +12,16 @@ ghost use Prim.Native.Nat.{_+_, _≤_, _<_};
 ghost use lib.ListN.{length, getD};
 ghost use Rattle.paths.proofs.LabelTest.{ListAgrees};
 ghost use Rattle.network.specs.NetworkFile.{junctionsOf, networkOf};
-ghost use Rattle.network.specs.Roads.{Grouped};
-ghost use Rattle.lists.specs.Cover.{Decides};
+ghost use Rattle.network.specs.working.Roads.{Grouped};
+ghost use Rattle.refusals.specs.working.Decides.{Decides};
 ghost use Rattle.forest.specs.LabelFile.{parentsOf};
-ghost use Rattle.forest.specs.Fits.{ParentsFit, DepthsFilled};
+ghost use Rattle.forest.specs.working.Fits.{ParentsFit, DepthsFilled};
 ghost use Rattle.stored.specs.Stored.{stored};
-ghost use Rattle.stored.specs.Formed.{Formed, StartsFilled, Beside, Tables, ListFits};
-ghost use Rattle.agree.specs.Right.{EveryListRight};
-ghost use Rattle.preorder.specs.Numbered.{Numbered};
-ghost use Rattle.agree.specs.Agreeing.{PlacesFor, AgreeInput, Unmarked};
-ghost use Rattle.exact.specs.Sweep.{AgreesBelow, Swept, Noted, MovedOn, SweepInput, BlockOf};
+ghost use Rattle.stored.specs.working.Formed.{Formed, StartsFilled, Beside, Tables, ListFits};
+ghost use Rattle.stored.specs.Right.{EveryListRight};
+ghost use Rattle.preorder.specs.working.Numbered.{Numbered};
+ghost use Rattle.agree.specs.working.Agreeing.{PlacesFor, AgreeInput, Unmarked};
+ghost use Rattle.exact.specs.working.Sweep.{AgreesBelow, Swept, Noted, MovedOn, SweepInput, BlockOf};
 
 // Notes where the lists of u stand, each at the place of its ancestor. These are swept later, so nothing is lost.
 fn note_above(

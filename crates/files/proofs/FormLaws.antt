@@ -10,19 +10,19 @@ use lib.ListN.{length}
 use borrow.Author.Tests.{le-leb, leb-true, eq-eqb, eqb-true, lt-ltb}
 use Rattle.refusals.specs.Order.{unless, decided, every}
 use Rattle.refusals.proofs.Order.{unless-passed, and-both, and-true, every-all}
-use Rattle.network.specs.Bytes.{marked}
+use Rattle.bytes.specs.Bytes.{marked}
 use Rattle.network.specs.Versions.{labelsServed}
 use Rattle.network.specs.NetworkFile.{versionOf, junctionsOf, roadsOf, identityOf}
-use Rattle.network.specs.Fits.{NetworkFits}
+use Rattle.network.specs.working.Fits.{NetworkFits}
 use Rattle.forest.specs.LabelFile.{entriesOf}
 use Rattle.forest.specs.Forest.{parentFits, chainEnds, depthOf, roadJoins}
 use Rattle.stored.specs.Stored.{listsOf, placeOf, entriesBefore}
 use Rattle.stored.specs.ListForm.{mostBytes, listsNumber}
 use Rattle.files.specs.LabelForm.{labelForm, sameNetwork, formBeside, formAlone}
-use Rattle.forest.specs.Fits.{ParentsFit}
-use Rattle.stored.specs.Formed.{ListFits, Formed, Beside}
-use Rattle.forest.specs.ParentsRead.{parentsPass}
-use Rattle.files.specs.FormRead.{headerForm, parentsForm, listsForm, junctionsFit}
+use Rattle.forest.specs.working.Fits.{ParentsFit}
+use Rattle.stored.specs.working.Formed.{ListFits, Formed, Beside}
+use Rattle.forest.specs.working.ParentsRead.{parentsPass}
+use Rattle.files.specs.working.FormRead.{headerForm, parentsForm, listsForm, junctionsFit}
 use Rattle.forest.proofs.Chains.{parents-fit}
 use Rattle.stored.proofs.Lists.{lists-fit, fits-lists-number}
 

@@ -9,29 +9,19 @@ use lib.Dec.{leb, eqb}
 use lib.ListN.{length}
 use borrow.Author.Tests.{le-leb, lt-leb, eq-eqb, ne-eqb, not-true, not-false}
 use Rattle.refusals.specs.Order.{unless, decided, every}
-use Rattle.network.specs.Bytes.{marked}
+use Rattle.bytes.specs.Bytes.{marked}
 use Rattle.network.specs.Versions.{labelsServed}
-use Rattle.network.specs.Reads.{ReadU16}
+use Rattle.bytes.specs.working.Reads.{ReadU16}
 use Rattle.network.specs.NetworkFile.{junctionsOf, roadsOf, identityOf}
-use Rattle.network.specs.Fits.{NetworkFits}
+use Rattle.network.specs.working.Fits.{NetworkFits}
 use Rattle.forest.specs.LabelFile.{entriesOf}
 use Rattle.forest.specs.Forest.{roadJoins}
 use Rattle.stored.specs.ListForm.{mostBytes}
 use Rattle.files.specs.LabelForm.{labelForm, sameNetwork, formBeside, formAlone}
-use Rattle.forest.specs.Fits.{ParentsFit, DepthsFilled}
-use Rattle.forest.specs.ParentsRead.{ParentsTested}
-use Rattle.stored.specs.Scanned.{Scanned}
-use Rattle.files.specs.FormRead.{
-  headerForm,
-  parentsForm,
-  listsForm,
-  junctionsFit,
-  ParentsNumbered,
-  ListsNumbered,
-  FormRead,
-  AloneRead,
-  BesideRead,
-}
+use Rattle.forest.specs.working.Fits.{ParentsFit, DepthsFilled}
+use Rattle.forest.specs.working.ParentsRead.{ParentsTested}
+use Rattle.stored.specs.working.Scanned.{Scanned}
+use Rattle.files.specs.working.FormRead.{headerForm, parentsForm, listsForm, junctionsFit, ParentsNumbered, ListsNumbered, FormRead, AloneRead, BesideRead}
 use Rattle.stored.proofs.Faults.{decided-fault}
 use Rattle.files.proofs.FormLaws.{
   label-parts,

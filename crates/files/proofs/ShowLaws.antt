@@ -13,11 +13,11 @@ use Rattle.forest.specs.LabelFile.{listEnd}
 use Rattle.forest.specs.Forest.{depthOf, isAncestor}
 use Rattle.stored.specs.Stored.{listPlace}
 use Rattle.files.specs.LabelForm.{formAlone}
-use Rattle.forest.specs.Fits.{ParentsFit}
-use Rattle.stored.specs.Formed.{Formed}
-use Rattle.stored.specs.Scanned.{FoundList}
+use Rattle.forest.specs.working.Fits.{ParentsFit}
+use Rattle.stored.specs.working.Formed.{Formed}
+use Rattle.stored.specs.working.Scanned.{FoundList}
 use Rattle.files.specs.Shown.{Shows, Shown, nothing, bytes}
-use Rattle.files.specs.Span.{AboveTested, Spans, none, list, SpanFound}
+use Rattle.files.specs.working.Span.{AboveTested, Spans, none, list, SpanFound}
 use Rattle.forest.proofs.Forest.{above-shallower, is-ancestor-sound, is-ancestor-complete}
 use Rattle.stored.proofs.Places.{list-takes, found-fits}
 

@@ -5,7 +5,7 @@ use Prim.Native.Nat.{ℕ, _+_, _*_}
 use lib.Dec.{leb, eqb}
 use lib.ListN.{length}
 use Rattle.refusals.specs.Order.{unless, decided, every}
-use Rattle.network.specs.Bytes.{marked}
+use Rattle.bytes.specs.Bytes.{marked}
 use Rattle.network.specs.Versions.{labelsServed}
 use Rattle.network.specs.NetworkFile.{versionOf, junctionsOf, roadsOf, identityOf}
 use Rattle.forest.specs.LabelFile.{entriesOf}

@@ -1,5 +1,4 @@
--- The label file, byte by byte: what each place means, and which number a file is refused by. Read in this order.
+-- Which number a label file is refused by, and the part of it that is shown. Read in this order.
 pub mod LabelForm
-pub mod FormRead
 pub mod Shown
-pub mod Span
+pub mod working

@@ -1,27 +1,20 @@
 // The form of a label file: which number of 11 to 17 it is refused by, alone or beside a network.
+use bytes::marked;
+use bytes::u16_at;
+use bytes::u32_at;
 use forest::parents::fill_depths;
 use forest::parents::roads_join;
-use network::bytes::marked;
-use network::bytes::u16_at;
-use network::bytes::u32_at;
 use stored::stored::scan_lists;
 ghost use mathlib.Core.Path.{_≡_};
 ghost use Prim.Native.Nat.{_≤_};
 ghost use lib.ListN.{length};
 ghost use Rattle.network.specs.Versions.{labelsServed};
 ghost use Rattle.network.specs.NetworkFile.{junctionsOf};
-ghost use Rattle.network.specs.Fits.{NetworkFits};
+ghost use Rattle.network.specs.working.Fits.{NetworkFits};
 ghost use Rattle.stored.specs.ListForm.{mostBytes};
 ghost use Rattle.files.specs.LabelForm.{sameNetwork};
-ghost use Rattle.forest.specs.Fits.{ParentsFit, DepthsFilled};
-ghost use Rattle.files.specs.FormRead.{
-  headerForm,
-  junctionsFit,
-  ParentsNumbered,
-  ListsNumbered,
-  AloneRead,
-  BesideRead,
-};
+ghost use Rattle.forest.specs.working.Fits.{ParentsFit, DepthsFilled};
+ghost use Rattle.files.specs.working.FormRead.{headerForm, junctionsFit, ParentsNumbered, ListsNumbered, AloneRead, BesideRead};
 
 const MOST_BYTES: usize = 4194304;
 

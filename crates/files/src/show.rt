@@ -1,7 +1,7 @@
 // Show: the very bytes of one stored list, handed out from the labels lent.
 use crate::form::form_alone;
+use bytes::u16_at;
 use forest::parents::is_ancestor;
-use network::bytes::u16_at;
 use stored::place::find_list;
 ghost use mathlib.Core.Path.{_≡_};
 ghost use Prim.Native.Nat.{_+_, _≤_, _<_};
@@ -9,10 +9,10 @@ ghost use lib.ListN.{length};
 ghost use Rattle.network.specs.NetworkFile.{junctionsOf};
 ghost use Rattle.stored.specs.Stored.{listPlace};
 ghost use Rattle.files.specs.LabelForm.{formAlone};
-ghost use Rattle.forest.specs.Fits.{ParentsFit, DepthsFilled};
-ghost use Rattle.stored.specs.Formed.{Formed, StartsFilled};
+ghost use Rattle.forest.specs.working.Fits.{ParentsFit, DepthsFilled};
+ghost use Rattle.stored.specs.working.Formed.{Formed, StartsFilled};
 ghost use Rattle.files.specs.Shown.{Shown};
-ghost use Rattle.files.specs.Span.{AboveTested, SpanFound};
+ghost use Rattle.files.specs.working.Span.{AboveTested, SpanFound};
 
 // The bytes from one place up to another.
 pub struct Span {

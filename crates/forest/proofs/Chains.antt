@@ -15,8 +15,8 @@ use Rattle.refusals.proofs.Order.{and-both, every-holds}
 use Rattle.network.specs.NetworkFile.{junctionsOf}
 use Rattle.forest.specs.LabelFile.{parentAt, noParent}
 use Rattle.forest.specs.Forest.{stepsUp, depthOf, ancestorOf, parentFits, chainEnds}
-use Rattle.forest.specs.Fits.{ParentsFit}
-use Rattle.forest.specs.ParentsRead.{ParentsStand, parentsPass}
+use Rattle.forest.specs.working.Fits.{ParentsFit}
+use Rattle.forest.specs.working.ParentsRead.{ParentsStand, parentsPass}
 
 -- ---- Roots and parents
 

@@ -18,8 +18,8 @@ use Rattle.refusals.proofs.Order.{and-both, and-true, every-holds, every-all}
 use Rattle.network.specs.NetworkFile.{junctionsOf, roadsOf, roadLow, roadHigh, roadTime, roadEnergy, RoadArc, networkOf}
 use Rattle.forest.specs.LabelFile.{parentAt, noParent, parentsOf}
 use Rattle.forest.specs.Forest.{depthOf, ancestorOf, isAncestor, roadJoins}
-use Rattle.forest.specs.Fits.{ParentsFit}
-use Rattle.network.specs.Fits.{NetworkFits}
+use Rattle.forest.specs.working.Fits.{ParentsFit}
+use Rattle.network.specs.working.Fits.{NetworkFits}
 use Rattle.forest.proofs.Chains.{or-either, IsRoot, AllEnd, root?, depth-parent, depth-none, depth-some}
 use Rattle.forest.proofs.Chains.{ancestor-none, ancestor-below, one-up, climbed}
 

@@ -14,8 +14,8 @@ use Rattle.refusals.proofs.Order.{and-both, and-true}
 use Rattle.network.specs.NetworkFile.{junctionsOf}
 use Rattle.forest.specs.LabelFile.{parentAt, noParent}
 use Rattle.forest.specs.Forest.{depthOf, ancestorOf, isAncestor}
-use Rattle.forest.specs.Fits.{ParentsFit, DepthsFilled}
-use Rattle.forest.specs.ParentsRead.{FeetRight, OneFoot}
+use Rattle.forest.specs.working.Fits.{ParentsFit, DepthsFilled}
+use Rattle.forest.specs.working.ParentsRead.{FeetRight, OneFoot}
 use Rattle.forest.proofs.Chains.{IsRoot, Climbed, depth-some, ancestor-none, ancestor-below, ancestor-add, ancestor-more, one-up}
 use Rattle.forest.proofs.ParentLoops.{stored-or-old}
 

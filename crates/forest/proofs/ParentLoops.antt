@@ -19,8 +19,8 @@ use Rattle.refusals.proofs.Order.{and-true, and-false-left, and-false-right, ev
 use Rattle.network.specs.NetworkFile.{junctionsOf, roadLow, roadHigh}
 use Rattle.forest.specs.LabelFile.{parentAt, noParent}
 use Rattle.forest.specs.Forest.{stepsUp, depthOf, ancestorOf, parentFits, chainEnds, isAncestor, roadJoins}
-use Rattle.forest.specs.Fits.{ParentsFit, DepthsFilled}
-use Rattle.forest.specs.ParentsRead.{ParentsStand, Climbable, NoneKnown, DepthsKnown, DepthFound, DepthsWritten, DepthSettled, ParentsTested, AncestorRead}
+use Rattle.forest.specs.working.Fits.{ParentsFit, DepthsFilled}
+use Rattle.forest.specs.working.ParentsRead.{ParentsStand, Climbable, NoneKnown, DepthsKnown, DepthFound, DepthsWritten, DepthSettled, ParentsTested, AncestorRead}
 use Rattle.forest.proofs.Chains.{IsRoot, AllFit, parent-on-map, steps-none, steps-root, steps-parent, steps-below, steps-capped, depth-parent, depth-some, ancestor-none, ancestor-more, parents-fit, climbed}
 
 -- ---- A test of every number below n

@@ -5,7 +5,7 @@ use mathlib.Core.Option.{Option, none, some}
 use Prim.Native.Nat.{ℕ, zero, suc, _+_, _*_}
 use lib.Dec.{ltb, eqb}
 use Rattle.paths.specs.Forest.{Parents}
-use Rattle.network.specs.Bytes.{u16At, u32At}
+use Rattle.bytes.specs.Bytes.{u16At, u32At}
 use Rattle.network.specs.NetworkFile.{junctionsOf}
 
 -- "8–11 E, all entries"

@@ -1,14 +1,14 @@
 // The foot of a junction: one below it, or itself, that has no child. Two junctions above one foot are related, and no climb is needed to see it.
 use crate::parents::NO_PARENT;
 use crate::parents::parent_at;
-use network::bytes::u16_at;
+use bytes::u16_at;
 ghost use mathlib.Core.Path.{_≡_};
 ghost use mathlib.Core.Bool.{true};
 ghost use Prim.Native.Nat.{_<_};
 ghost use Rattle.network.specs.NetworkFile.{junctionsOf};
 ghost use Rattle.forest.specs.Forest.{isAncestor};
-ghost use Rattle.forest.specs.Fits.{ParentsFit, DepthsFilled};
-ghost use Rattle.forest.specs.ParentsRead.{FeetRight, OneFoot};
+ghost use Rattle.forest.specs.working.Fits.{ParentsFit, DepthsFilled};
+ghost use Rattle.forest.specs.working.ParentsRead.{FeetRight, OneFoot};
 
 // What stands for a foot that is not known: of a junction that has no child, and of one that has.
 pub const NO_CHILD: u16 = 65535;

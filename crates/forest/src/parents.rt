@@ -2,30 +2,19 @@
 use crate::feet::NO_CHILD;
 use crate::feet::fill_feet;
 use crate::feet::is_above;
-use network::bytes::u16_at;
-use network::bytes::u32_at;
+use bytes::u16_at;
+use bytes::u32_at;
 ghost use mathlib.Core.Path.{_≡_};
 ghost use mathlib.Core.Bool.{true, _&&_};
 ghost use Prim.Native.Nat.{_+_, _*_, _≤_, _<_};
 ghost use lib.ListN.{length};
 ghost use Rattle.refusals.specs.Order.{every};
-ghost use Rattle.network.specs.Reads.{ReadU16};
+ghost use Rattle.bytes.specs.working.Reads.{ReadU16};
 ghost use Rattle.network.specs.NetworkFile.{junctionsOf, roadsOf};
 ghost use Rattle.forest.specs.Forest.{depthOf, parentFits, isAncestor, roadJoins};
-ghost use Rattle.forest.specs.Fits.{ParentsFit, DepthsFilled};
-ghost use Rattle.network.specs.Fits.{NetworkFits};
-ghost use Rattle.forest.specs.ParentsRead.{
-  ParentsStand,
-  Climbable,
-  NoneKnown,
-  DepthsKnown,
-  DepthFound,
-  DepthsWritten,
-  DepthSettled,
-  ParentsTested,
-  AncestorRead,
-  FeetRight,
-};
+ghost use Rattle.forest.specs.working.Fits.{ParentsFit, DepthsFilled};
+ghost use Rattle.network.specs.working.Fits.{NetworkFits};
+ghost use Rattle.forest.specs.working.ParentsRead.{ParentsStand, Climbable, NoneKnown, DepthsKnown, DepthFound, DepthsWritten, DepthSettled, ParentsTested, AncestorRead, FeetRight};
 
 pub const NO_PARENT: u32 = 65535;
 

@@ -9,14 +9,14 @@ use lib.ListN.{getD}
 use Rattle.paths.specs.Forest.{Above, parent-is, Ancestor, Related, Common}
 use Rattle.paths.proofs.Forest.{ancestor-trans, ancestor-of-parent, ancestors-related}
 use Rattle.network.specs.NetworkFile.{junctionsOf}
-use Rattle.network.specs.Reads.{ReadU16}
+use Rattle.bytes.specs.working.Reads.{ReadU16}
 use Rattle.forest.specs.LabelFile.{parentAt, noParent, parentsOf}
 use Rattle.forest.specs.Forest.{depthOf, ancestorOf}
-use Rattle.forest.specs.Fits.{ParentsFit, DepthsFilled}
-use Rattle.forest.specs.ParentsRead.{AncestorRead}
+use Rattle.forest.specs.working.Fits.{ParentsFit, DepthsFilled}
+use Rattle.forest.specs.working.ParentsRead.{AncestorRead}
 use Rattle.forest.proofs.Chains.{ancestor-none, depth-some, one-up, climbed}
 use Rattle.forest.proofs.Forest.{above-shallower, parents-child, ancestor-is-up}
-use Rattle.hoplinks.specs.Meeting.{MeetsAt}
+use Rattle.hoplinks.specs.working.Meeting.{MeetsAt}
 
 -- ---- No step, and a depth read
 

@@ -12,18 +12,18 @@ use lib.Seq.{getD-set-same, getD-set-other}
 use Rattle.paths.specs.Weights.{weights, energy, pair}
 use Rattle.paths.specs.Forest.{Above, Ancestor, Related, WorkingSet, itself, crossing}
 use Rattle.refusals.proofs.Order.{every-holds}
-use Rattle.network.specs.Reads.{ReadU16}
+use Rattle.bytes.specs.working.Reads.{ReadU16}
 use Rattle.network.specs.NetworkFile.{junctionsOf, roadsOf, roadTime, roadEnergy, RoadArc, networkOf}
-use Rattle.network.specs.RoadsRead.{FilledBelow}
+use Rattle.network.specs.working.RoadsRead.{FilledBelow}
 use Rattle.network.proofs.Arcs.{two-way}
 use Rattle.forest.specs.LabelFile.{parentsOf}
 use Rattle.forest.specs.Forest.{depthOf, ancestorOf, isAncestor, roadJoins}
-use Rattle.forest.specs.Fits.{ParentsFit, DepthsFilled}
-use Rattle.stored.specs.Formed.{Beside}
+use Rattle.forest.specs.working.Fits.{ParentsFit, DepthsFilled}
+use Rattle.stored.specs.working.Formed.{Beside}
 use Rattle.forest.proofs.Chains.{climbed}
 use Rattle.forest.proofs.Forest.{above-shallower, above-at, is-ancestor-sound, is-ancestor-complete, low-on-map, high-on-map, joined-related}
-use Rattle.hoplinks.specs.Meeting.{HopMarks}
-use Rattle.hoplinks.specs.Marking.{OneMark, OnBranch, CrossingDepth, crosses, passes-by, RoadMark}
+use Rattle.hoplinks.specs.working.Meeting.{HopMarks}
+use Rattle.hoplinks.specs.working.Marking.{OneMark, OnBranch, CrossingDepth, crosses, passes-by, RoadMark}
 use Rattle.hoplinks.proofs.Branches.{no-climb, no-deeper, shallower-ancestor, strictly-above, stays-above}
 
 -- ---- A road between two junctions

@@ -1,3 +1,2 @@
--- Where two branches meet, and which ancestors are marked there. Read in this order.
-pub mod Meeting
-pub mod Marking
+-- Nothing here is part of what the calls promise: `working` has the contracts between functions.
+pub mod working

@@ -1,16 +1,16 @@
 // The hoplinks of a junction: itself and each proper ancestor that has a road to it or below it.
+use bytes::u32_at;
 use forest::parents::is_ancestor;
-use network::bytes::u32_at;
 use network::roads::road_high;
 use network::roads::road_low;
 ghost use mathlib.Core.Path.{_≡_};
 ghost use Prim.Native.Nat.{_<_};
 ghost use lib.ListN.{length};
 ghost use Rattle.network.specs.NetworkFile.{junctionsOf, roadsOf};
-ghost use Rattle.forest.specs.Fits.{ParentsFit, DepthsFilled};
-ghost use Rattle.stored.specs.Formed.{Beside};
-ghost use Rattle.hoplinks.specs.Meeting.{HopMarks};
-ghost use Rattle.hoplinks.specs.Marking.{OneMark, OnBranch, CrossingDepth, RoadMark};
+ghost use Rattle.forest.specs.working.Fits.{ParentsFit, DepthsFilled};
+ghost use Rattle.stored.specs.working.Formed.{Beside};
+ghost use Rattle.hoplinks.specs.working.Meeting.{HopMarks};
+ghost use Rattle.hoplinks.specs.working.Marking.{OneMark, OnBranch, CrossingDepth, RoadMark};
 
 fn wide(x: u32) -> usize
     ensures { λ r. ⌜ r ≡ x ⌝ }

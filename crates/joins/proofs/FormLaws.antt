@@ -10,7 +10,7 @@ use lib.Dec.{leb, ltb, eqb}
 use lib.ListN.{length, getD}
 use Rattle.refusals.specs.Order.{every}
 use Rattle.refusals.proofs.Order.{unless-passed, and-both, every-holds}
-use Rattle.lists.specs.Entries.{IsList}
+use Rattle.lists.specs.working.Lists.{IsList}
 use Rattle.joins.specs.Form.{mostEntries, mostNumber, follows, entryFits, wellFormed, joinNumber}
 
 -- What an entry that fits keeps to

@@ -11,7 +11,8 @@ use Rattle.paths.specs.TradeOff.{IsJoin}
 use Rattle.paths.proofs.Figures.{number-lawful}
 use Rattle.paths.proofs.Unique.{join-unique}
 use Rattle.refusals.specs.Lent.{filled}
-use Rattle.lists.specs.Entries.{Weight, entries, times, energies, IsList}
+use Rattle.lists.specs.Entries.{Weight, entries, times, energies}
+use Rattle.lists.specs.working.Lists.{IsList}
 use Rattle.joins.specs.Form.{mostNumber, joinNumber}
 use Rattle.joins.specs.Answers.{Join}
 use Rattle.joins.specs.Answers as call

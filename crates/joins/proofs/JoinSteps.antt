@@ -13,8 +13,9 @@ use Rattle.paths.proofs.Skyline.{join-exists}
 use Rattle.paths.proofs.Unique.{join-unique}
 use Rattle.paths.proofs.OneLimit.{LastWithin, join-ordered}
 use Rattle.refusals.specs.Lent.{filled}
-use Rattle.lists.specs.Entries.{Weight, entries, times, energies, IsList}
-use Rattle.lists.specs.Sums.{sumAt, BestPlaces, BestFound}
+use Rattle.lists.specs.Entries.{Weight, entries, times, energies}
+use Rattle.lists.specs.working.Lists.{IsList}
+use Rattle.lists.specs.working.Sums.{sumAt, BestPlaces, BestFound}
 use Rattle.lists.specs.declared.Places.{Places}
 use Rattle.lists.specs.declared.Places.the-variants.{Nowhere}
 use Rattle.lists.proofs.Entries.{isList-more, bestPlaces-bestSum, nowhere-noSum, sum-places}

@@ -7,7 +7,7 @@ use Rattle.paths.specs.Weights.{energy, pair}
 use Rattle.paths.specs.Answer.{BestSum}
 use Rattle.lists.specs.Entries.{entries}
 use Rattle.joins.specs.Form.{joinNumber}
-use Rattle.lists.specs.Sums.{sumAt, BestPlaces, BestFound}
+use Rattle.lists.specs.working.Sums.{sumAt, BestPlaces, BestFound}
 use Rattle.lists.specs.declared.Places.{Places}
 use Rattle.lists.specs.declared.Places.the-variants.{Nowhere}
 use Rattle.joins.specs.Answers.{LimitedJoin, refused, over-limit, found}

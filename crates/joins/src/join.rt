@@ -13,7 +13,8 @@ ghost use lib.ListN.{length};
 ghost use Rattle.paths.specs.Weights.{energy};
 ghost use Rattle.paths.specs.TradeOff.{IsJoin};
 ghost use Rattle.refusals.specs.Lent.{filled};
-ghost use Rattle.lists.specs.Entries.{Weight, IsList, entries, times as timesOf, energies as energiesOf};
+ghost use Rattle.lists.specs.Entries.{Weight, entries, times as timesOf, energies as energiesOf};
+ghost use Rattle.lists.specs.working.Lists.{IsList};
 ghost use Rattle.joins.specs.Answers.{Join, joinNumberOf, joinCountOf};
 
 // More than the energy of any sum.

@@ -5,10 +5,10 @@ use Prim.Native.Nat.{ℕ}
 use native.Mathlib.Omega.{arith}
 use Rattle.network.proofs.Accepted.{network-fits}
 use Rattle.files.proofs.FormLaws.{form-beside-passed}
-use Rattle.agree.specs.Right.{Accepted}
-use Rattle.query.specs.Prepared.{Prepared}
+use Rattle.labels.specs.working.Working.{Accepted}
+use Rattle.query.specs.working.Prepared.{Prepared}
 use Rattle.labels.specs.Check.{Checked, network-refused, labels-refused, list-wrong, accepted}
-use Rattle.labels.specs.Working.{Accepting}
+use Rattle.labels.specs.working.Working.{Accepting}
 
 -- number 0 is given to accepted sets alone
 pub zero-accepts : {net s : List ℕ} {number : ℕ} → Checked net s number → number ≡ 0 → Accepted net s

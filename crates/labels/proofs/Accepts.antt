@@ -4,16 +4,16 @@ use mathlib.Core.Bool.{Bool, true, false}
 use mathlib.Core.List.{List}
 use Prim.Native.Nat.{ℕ}
 use lib.ListN.{length}
-use Rattle.lists.specs.Cover.{Decides}
+use Rattle.refusals.specs.working.Decides.{Decides}
 use Rattle.network.specs.NetworkFile.{netNumber}
-use Rattle.network.specs.Fits.{NetworkFits}
-use Rattle.network.specs.Roads.{Grouped}
+use Rattle.network.specs.working.Fits.{NetworkFits}
+use Rattle.network.specs.working.Roads.{Grouped}
 use Rattle.network.proofs.Accepted.{network-fits}
-use Rattle.stored.specs.Formed.{Tables, Beside}
-use Rattle.files.specs.FormRead.{BesideRead}
-use Rattle.agree.specs.Right.{EveryListRight}
+use Rattle.stored.specs.working.Formed.{Tables, Beside}
+use Rattle.files.specs.working.FormRead.{BesideRead}
+use Rattle.stored.specs.Right.{EveryListRight}
 use Rattle.labels.specs.Check.{Checked, network-refused, labels-refused, list-wrong, accepted}
-use Rattle.labels.specs.Working.{Accepting}
+use Rattle.labels.specs.working.Working.{Accepting}
 
 -- a network that passed has no number
 pub network-passes : {net : List ℕ} {number : ℕ} → number ≡ netNumber net → number ≡ 0 → NetworkFits net

@@ -11,9 +11,10 @@ use Rattle.paths.specs.declared.seconds.Seconds.{Seconds}
 use Rattle.paths.specs.declared.energy.Energy.{Energy}
 use Rattle.query.specs.declared.Answer.{Answer}
 use Rattle.query.specs.declared.Answer.the-variants as case
-use Rattle.query.specs.Answers.{Answers, numberOf, timeOf, energyOf}
+use Rattle.query.specs.Answers.{Answers}
+use Rattle.query.specs.working.AnswerValues.{numberOf, timeOf, energyOf}
 use Rattle.labels.specs.Batch.{TripleAnswered}
-use Rattle.labels.specs.Working.{putTriple, AnsweredTo, Triples}
+use Rattle.labels.specs.working.Working.{putTriple, AnsweredTo, Triples}
 
 -- an answer is a found pair, or it carries zeros beside its number
 pub pair-or-zeros : (a : Answer) → ((time : Seconds) × (units : Energy) × (a ≡ case.Found time units)) ⊎ ((timeOf a ≡ 0) × (energyOf a ≡ 0) × (numberOf a ≡ 0 → ⊥))

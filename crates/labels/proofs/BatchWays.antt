@@ -11,7 +11,7 @@ use lib.ListN.{length}
 use borrow.Author.Tests.{eq-eqb, ne-eqb, le-leb, lt-leb}
 use Rattle.labels.specs.Check.{Checked}
 use Rattle.labels.specs.Batch.{shapeNumber, BatchDone, misshapen, refused, answered}
-use Rattle.labels.specs.Working.{Accepting, AnsweredTo, Triples}
+use Rattle.labels.specs.working.Working.{Accepting, AnsweredTo, Triples}
 
 module _ (queries answers : List ℕ) where
   no-triples : (length queries % 3 ≡ 0 → ⊥) → shapeNumber queries answers ≡ 31

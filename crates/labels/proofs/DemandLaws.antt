@@ -23,10 +23,10 @@ use Rattle.network.specs.NetworkFile.{netNumber, networkOf, junctionsOf}
 use Rattle.network.proofs.Arcs.{network-finite}
 use Rattle.network.proofs.Accepted.{network-fits}
 use Rattle.files.specs.LabelForm.{formBeside}
-use Rattle.stored.specs.Formed.{Beside}
+use Rattle.stored.specs.working.Formed.{Beside}
 use Rattle.files.proofs.FormLaws.{form-beside-passed}
-use Rattle.agree.specs.Right.{EveryListRight}
-use Rattle.agree.proofs.Exactness.{lists-ordered}
+use Rattle.stored.specs.Right.{EveryListRight}
+use Rattle.stored.proofs.Passed.{lists-ordered}
 use Rattle.query.specs.Answers.{Answers, off-map, not-connected, over-limit, found}
 use Rattle.query.proofs.AnswersUnique.{answers-unique}
 use Rattle.labels.specs.Check.{Checked}

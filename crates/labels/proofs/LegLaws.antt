@@ -12,7 +12,7 @@ use Rattle.paths.proofs.Covering.{TradeOffs}
 use Rattle.paths.proofs.Existence.{tradeOff-exists}
 use Rattle.paths.proofs.Cuts.{demand3-answered, demand3-refused}
 use Rattle.network.specs.NetworkFile.{networkOf, junctionsOf}
-use Rattle.network.specs.Fits.{NetworkFits}
+use Rattle.network.specs.working.Fits.{NetworkFits}
 use Rattle.network.proofs.Arcs.{arc-on-map, network-finite}
 use Rattle.network.proofs.Accepted.{network-fits}
 use Rattle.query.specs.Answers.{found}

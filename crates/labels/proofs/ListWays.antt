@@ -11,13 +11,13 @@ use Rattle.paths.proofs.Figures.{number-lawful}
 use Rattle.paths.proofs.Covering.{walk-covered}
 use Rattle.paths.proofs.Existence.{tradeOff-exists}
 use Rattle.network.specs.NetworkFile.{networkOf, junctionsOf}
-use Rattle.network.specs.Reads.{ReadU16}
+use Rattle.bytes.specs.working.Reads.{ReadU16}
 use Rattle.network.proofs.Arcs.{network-finite}
 use Rattle.lists.specs.Entries.{Weight}
-use Rattle.query.specs.Prepared.{Prepared}
-use Rattle.routes.specs.Written.{ListWritten}
+use Rattle.query.specs.working.Prepared.{Prepared}
+use Rattle.routes.specs.working.Written.{ListWritten}
 use Rattle.labels.specs.Check.{Checked}
-use Rattle.labels.specs.Working.{Accepting}
+use Rattle.labels.specs.working.Working.{Accepting}
 use Rattle.labels.specs.List.{Listed, refused, off-map, not-connected, no-room, listed}
 
 -- a list with an entry is not empty

@@ -17,12 +17,13 @@ use Rattle.refusals.specs.Lent.{filled}
 use Rattle.network.specs.NetworkFile.{networkOf, junctionsOf}
 use Rattle.query.specs.declared.Answer.{Answer}
 use Rattle.query.specs.declared.Answer.the-variants as case
-use Rattle.query.specs.Answers.{Answers, numberOf, timeOf, energyOf, off-map, not-connected, over-limit, found}
-use Rattle.routes.specs.Written.{RouteFound}
+use Rattle.query.specs.Answers.{Answers, off-map, not-connected, over-limit, found}
+use Rattle.query.specs.working.AnswerValues.{numberOf, timeOf, energyOf}
+use Rattle.routes.specs.working.Written.{RouteFound}
 use Rattle.labels.specs.Check.{Checked}
 use Rattle.labels.specs.Route.{Routed, refused, no-answer, no-room, routed}
-use Rattle.labels.specs.Working.{Accepting, RoutePut}
-use Rattle.labels.specs.Working as working
+use Rattle.labels.specs.working.Working.{Accepting, RoutePut}
+use Rattle.labels.specs.working.Working as working
 
 -- What a found pair gives
 pub record FoundPair (net : List ℕ) (x y C time units : ℕ) : Type 0 where

@@ -4,7 +4,7 @@ use mathlib.Core.List.{List}
 use Prim.Native.Nat.{ℕ}
 use Rattle.network.specs.NetworkFile.{netNumber}
 use Rattle.files.specs.LabelForm.{formBeside}
-use Rattle.agree.specs.Right.{EveryListRight}
+use Rattle.stored.specs.Right.{EveryListRight}
 
 -- The network's number, then the labels', then 18: "given exactly if all before it pass and a list differs from the definition"
 pub data Checked (net s : List ℕ) (number : ℕ) : Type 0 where

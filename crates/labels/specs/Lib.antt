@@ -2,9 +2,9 @@
 -- `joins/specs/Answers.antt`; Show: `files/specs/Shown.antt`.)
 pub mod Check
 pub mod Batch
-pub mod Working
 pub mod Route
 pub mod RouteAnswers
 pub mod List
 pub mod ListAnswers
 pub mod Demands
+pub mod working

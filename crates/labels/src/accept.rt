@@ -6,7 +6,7 @@ use network::network::net_number;
 use network::roads::group_roads;
 ghost use mathlib.Core.Path.{_≡_};
 ghost use lib.ListN.{length};
-ghost use Rattle.labels.specs.Working.{Accepting};
+ghost use Rattle.labels.specs.working.Working.{Accepting};
 
 pub fn accept(
     net: &[u8],

@@ -12,12 +12,12 @@ ghost use lib.ListN.{length};
 ghost use Rattle.paths.specs.Weights.{pair};
 ghost use Rattle.paths.specs.TradeOff.{Skyline};
 ghost use Rattle.network.specs.NetworkFile.{networkOf, junctionsOf};
-ghost use Rattle.network.specs.Roads.{Grouped};
-ghost use Rattle.query.specs.Prepared.{Prepared};
+ghost use Rattle.network.specs.working.Roads.{Grouped};
+ghost use Rattle.query.specs.working.Prepared.{Prepared};
 ghost use Rattle.labels.specs.Check.{Checked};
 ghost use Rattle.labels.specs.Route.{Routed};
 ghost use Rattle.labels.specs.RouteAnswers.{routeNumberOf, routeTimeOf, routeEnergyOf, routeCountOf};
-ghost use Rattle.labels.specs.Working.{RoutePut};
+ghost use Rattle.labels.specs.working.Working.{RoutePut};
 
 // The first route of an unbeaten pair, put into the first of the lent places if they are enough.
 fn put_route(

@@ -4,9 +4,9 @@ use query::limited::answer;
 ghost use mathlib.Core.Path.{_≡_};
 ghost use Prim.Native.Nat.{_+_, _<_};
 ghost use lib.ListN.{length};
-ghost use Rattle.query.specs.Answers.{numberOf, timeOf, energyOf};
-ghost use Rattle.query.specs.Prepared.{Prepared};
-ghost use Rattle.labels.specs.Working.{putTriple, AnsweredTo, Triples};
+ghost use Rattle.query.specs.working.AnswerValues.{numberOf, timeOf, energyOf};
+ghost use Rattle.query.specs.working.Prepared.{Prepared};
+ghost use Rattle.labels.specs.working.Working.{putTriple, AnsweredTo, Triples};
 
 // "21, 22, 23"; 0 for a found pair.
 pub fn code(answer: Answer) -> u32

@@ -1,12 +1,12 @@
 // Trade-off list after the check: the entries are counted before the first is written, so that a refusal changes nothing lent.
 use crate::ListAnswer;
-use network::bytes::u16_at;
+use bytes::u16_at;
 use routes::list::list_count;
 use routes::list::list_fill;
 ghost use mathlib.Core.Path.{_≡_};
 ghost use Prim.Native.Nat.{_<_, min};
 ghost use Rattle.network.specs.NetworkFile.{junctionsOf};
-ghost use Rattle.query.specs.Prepared.{Prepared};
+ghost use Rattle.query.specs.working.Prepared.{Prepared};
 ghost use Rattle.labels.specs.Check.{Checked};
 ghost use Rattle.labels.specs.List.{Listed};
 ghost use Rattle.labels.specs.ListAnswers.{listNumberOf, listCountOf};

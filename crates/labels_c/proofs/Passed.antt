@@ -7,7 +7,7 @@ use Rattle.joins.specs.Answers.{Join, LimitedJoin}
 use Rattle.forest.specs.LabelFile.{listEnd}
 use Rattle.stored.specs.Stored.{listPlace}
 use Rattle.stored.proofs.Places.{list-takes}
-use Rattle.files.specs.Span.{Spans, none, list, SpanFound}
+use Rattle.files.specs.working.Span.{Spans, none, list, SpanFound}
 use Rattle.files.proofs.ShowLaws.{span-shown}
 use Rattle.labels.specs.Route.{Routed}
 use Rattle.labels.specs.List.{Listed}

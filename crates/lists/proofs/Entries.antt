@@ -11,8 +11,9 @@ use lib.ListN.{length, getD}
 use Rattle.paths.specs.Weights.{weights, energy, pair, Within, NotLater}
 use Rattle.paths.specs.TradeOff.{Ordered, none, one, more, IsSum}
 use Rattle.paths.specs.Answer.{BestSum, NoSum}
-use Rattle.lists.specs.Entries.{Weight, entries, entryAt, times, energies, IsList}
-use Rattle.lists.specs.Sums.{sumAt, BestPlaces, BestFound}
+use Rattle.lists.specs.Entries.{Weight, entries, times, energies}
+use Rattle.lists.specs.working.Lists.{entryAt, IsList}
+use Rattle.lists.specs.working.Sums.{sumAt, BestPlaces, BestFound}
 use Rattle.lists.specs.declared.Places.{Places}
 use Rattle.lists.specs.declared.Places.the-variants.{At}
 

@@ -8,7 +8,7 @@ use borrow.Author.Count.{below-more}
 use borrow.Author.Tests.{ltb-true, ltb-false}
 use lib.Dec.{ltb}
 use lib.ListN.{length, getD}
-use Rattle.lists.specs.Sums.{Leading}
+use Rattle.lists.specs.working.Sums.{Leading}
 
 -- Every entry before count is within the limit
 pub record Passed (es : List ℕ) (limit count : ℕ) : Type 0 where

@@ -14,8 +14,9 @@ use lib.ListN.{length, getD}
 use Rattle.paths.specs.Weights.{weights, energy, pair, Within, Sooner, by-time, by-figures, NotLater, sooner, same}
 use Rattle.paths.proofs.Figures.{number-lawful}
 use Rattle.paths.proofs.Weights.{notLater-trans, sooner-trans, sooner-irrefl}
-use Rattle.lists.specs.Entries.{Weight, entryAt, IsList}
-use Rattle.lists.specs.Sums.{sumAt, BestPlaces}
+use Rattle.lists.specs.Entries.{Weight}
+use Rattle.lists.specs.working.Lists.{entryAt, IsList}
+use Rattle.lists.specs.working.Sums.{sumAt, BestPlaces}
 use Rattle.lists.specs.declared.sums.Sum.{Sum}
 use Rattle.lists.proofs.Tests.{test-fails, test-holds}
 use Rattle.lists.proofs.Entries.{energy-rises-far, time-falls-far, within-eq, notLater-eq}

@@ -1,4 +1,3 @@
--- Trade-off lists in two slices, the best sum of two, and what a test decides. Read in this order.
+-- Trade-off lists in two slices.
 pub mod Entries
-pub mod Sums
-pub mod Cover
+pub mod working

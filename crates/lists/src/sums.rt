@@ -8,8 +8,8 @@ ghost use mathlib.Core.Bool.{true, false};
 ghost use Prim.Native.Nat.{ℕ, _+_, _-_, _≤_, _<_, _^_};
 ghost use lib.ListN.{length, getD};
 ghost use Rattle.paths.specs.Weights.{energy, pair, Sooner, NotLater};
-ghost use Rattle.lists.specs.Entries.{IsList};
-ghost use Rattle.lists.specs.Sums.{sumAt, BestFound};
+ghost use Rattle.lists.specs.working.Lists.{IsList};
+ghost use Rattle.lists.specs.working.Sums.{sumAt, BestFound};
 
 // A sum of an entry of the first list and one of the second: their places, and its time and energy.
 pub struct Sum {

@@ -1,6 +1,6 @@
 // How many leading entries of a list are within a limit.
 use paths::energy::Energy;
-ghost use Rattle.lists.specs.Sums.{Leading};
+ghost use Rattle.lists.specs.working.Sums.{Leading};
 
 pub fn within(energies: &[u32], limit: Energy) -> usize
     ensures { λ r. ⌜ Leading (now (energies .entry)) (limit .0) r ⌝ }

@@ -1,2 +1,2 @@
--- What the exported calls answer. The file's first line says of which call.
-pub mod FormNumber
+-- Nothing here is part of what the calls promise: `working` has the contracts between functions.
+pub mod working

@@ -19,14 +19,14 @@ ghost use lib.ListN.{length};
 ghost use Rattle.paths.specs.Weights.{pair};
 ghost use Rattle.paths.specs.TradeOff.{Skyline, IsTradeOff};
 ghost use Rattle.network.specs.NetworkFile.{junctionsOf, networkOf};
-ghost use Rattle.network.specs.Roads.{Grouped};
+ghost use Rattle.network.specs.working.Roads.{Grouped};
 ghost use Rattle.lists.specs.Entries.{Weight};
 ghost use Rattle.joins.specs.Answers.{Join, LimitedJoin};
-ghost use Rattle.query.specs.Prepared.{Prepared};
-ghost use Rattle.routes.specs.Written.{RouteFound, ListWritten};
+ghost use Rattle.query.specs.working.Prepared.{Prepared};
+ghost use Rattle.routes.specs.working.Written.{RouteFound, ListWritten};
 ghost use Rattle.labels.specs.Check.{Checked};
-ghost use Rattle.labels.specs.Working.{Accepting, Triples, AnsweredTo};
-ghost use Rattle.measured.specs.FormNumber.{FormNumber};
+ghost use Rattle.labels.specs.working.Working.{Accepting, Triples, AnsweredTo};
+ghost use Rattle.measured.specs.working.FormNumber.{FormNumber};
 
 // What Join answers, for a caller in Rust: the number it refuses by and no count, or 0 and the places filled.
 #[repr(C)]

@@ -10,7 +10,7 @@ use lib.ListN.{length}
 use borrow.Author.Tests.{ltb-true, lt-ltb, leb-true, le-leb, eq-eqb}
 use Rattle.refusals.specs.Order.{decided}
 use Rattle.refusals.proofs.Order.{unless-passed, and-both, no-fault, all-pass}
-use Rattle.network.specs.Bytes.{marked}
+use Rattle.bytes.specs.Bytes.{marked}
 use Rattle.network.specs.Versions.{netServed, leastEnergy}
 use Rattle.network.specs.NetworkFile.{
   versionOf,
@@ -26,7 +26,7 @@ use Rattle.network.specs.NetworkFile.{
   netNumber,
 }
 use Rattle.network.specs.NetworkTests.{headerNumber}
-use Rattle.network.specs.Fits.{NetworkFits}
+use Rattle.network.specs.working.Fits.{NetworkFits}
 use Rattle.network.proofs.NetworkTests.{header-then-records, header-fits}
 
 -- ---- A record

@@ -26,8 +26,8 @@ use Rattle.network.specs.NetworkFile.{
   RoadArc,
   networkOf,
 }
-use Rattle.network.specs.Fits.{NetworkFits}
-use Rattle.network.proofs.Numbers.{u16-small}
+use Rattle.network.specs.working.Fits.{NetworkFits}
+use Rattle.bytes.proofs.Numbers.{u16-small}
 
 -- ---- One arc
 

@@ -9,11 +9,11 @@ use native.Mathlib.Omega.{arith}
 use native.Mathlib.Numerals.{add-one}
 use lib.ListN.{length, getD, set, length-set}
 use lib.Seq.{getD-set-same, getD-set-other}
-use Rattle.network.specs.Reads.{ReadU16}
+use Rattle.bytes.specs.working.Reads.{ReadU16}
 use Rattle.network.specs.NetworkFile.{junctionsOf, roadsOf, roadLow, roadHigh}
-use Rattle.network.specs.Roads.{touches, nextRoad, Grouped}
-use Rattle.network.specs.RoadsRead.{ReadOther, NextsFilled, FilledBelow, GroupedFrom}
-use Rattle.network.specs.Fits.{NetworkFits}
+use Rattle.network.specs.working.Roads.{touches, nextRoad, Grouped}
+use Rattle.network.specs.working.RoadsRead.{ReadOther, NextsFilled, FilledBelow, GroupedFrom}
+use Rattle.network.specs.working.Fits.{NetworkFits}
 use Rattle.network.proofs.RoadsAt.{nextRoad-end, nextRoad-here, nextRoad-skip, touches-low, touches-high, touches-neither, high-if-not-low, other-of-low, other-of-high}
 
 -- ---- The reads of one road

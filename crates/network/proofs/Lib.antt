@@ -1,6 +1,4 @@
 -- Laws of the network file, for those who read it further.
-pub mod Numbers
-pub mod FaultLoop
 pub mod NetworkTests
 pub mod Accepted
 pub mod Arcs

@@ -10,9 +10,9 @@ use lib.ListN.{length}
 use borrow.Author.Tests.{lt-ltb, le-ltb, le-leb, lt-leb, eq-eqb, ne-eqb, not-true, not-false, leb-true, eqb-true}
 use Rattle.refusals.specs.Order.{unless, decided, firstFault}
 use Rattle.refusals.proofs.Order.{unless-passed, and-both}
-use Rattle.network.specs.Bytes.{marked}
+use Rattle.bytes.specs.Bytes.{marked}
 use Rattle.network.specs.Versions.{netServed, leastEnergy}
-use Rattle.network.specs.Reads.{ReadU16}
+use Rattle.bytes.specs.working.Reads.{ReadU16}
 use Rattle.network.specs.NetworkFile.{
   versionOf,
   junctionsOf,

@@ -10,8 +10,8 @@ use native.Mathlib.Omega.{arith}
 use borrow.Author.Tests.{eqb-true, eq-eqb, ne-eqb}
 use Rattle.paths.specs.Weights.{weights, energy, pair}
 use Rattle.network.specs.NetworkFile.{junctionsOf, roadsOf, roadLow, roadHigh, roadTime, roadEnergy, RoadArc}
-use Rattle.network.specs.Roads.{touches, otherEnd, searchRoad, nextRoad}
-use Rattle.network.specs.Fits.{NetworkFits}
+use Rattle.network.specs.working.Roads.{touches, otherEnd, searchRoad, nextRoad}
+use Rattle.network.specs.working.Fits.{NetworkFits}
 use Rattle.network.proofs.Arcs.{Earlier, by-low, by-high, roads-rise-far, arc-on-map}
 
 -- ---- The first road from k on

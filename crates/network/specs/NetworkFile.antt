@@ -9,7 +9,7 @@ use lib.ListN.{length}
 use Rattle.paths.specs.Weights.{weights, energy, pair, time}
 use Rattle.paths.specs.Network.{Network}
 use Rattle.refusals.specs.Order.{unless, firstFault}
-use Rattle.network.specs.Bytes.{u16At, u32At, marked}
+use Rattle.bytes.specs.Bytes.{u16At, u32At, marked}
 use Rattle.network.specs.Versions.{netServed, leastEnergy}
 
 -- The header: "3–4 version", "6–7 n", "8–11 m roads", "12–15 identity"; the label file has version, n and identity at the same bytes

@@ -5,7 +5,7 @@ use Prim.Native.Nat.{ℕ, _+_, _*_}
 use lib.Dec.{leb, ltb, eqb}
 use lib.ListN.{length}
 use Rattle.refusals.specs.Order.{unless}
-use Rattle.network.specs.Bytes.{marked}
+use Rattle.bytes.specs.Bytes.{marked}
 use Rattle.network.specs.Versions.{netServed, leastEnergy}
 use Rattle.network.specs.NetworkFile.{
   versionOf,

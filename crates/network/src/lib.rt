@@ -1,5 +1,5 @@
 // The network file: every byte has one reading.
-pub mod bytes;
+pub mod header;
 pub mod network;
 pub mod roads;
 pub mod versions;

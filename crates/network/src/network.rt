@@ -1,9 +1,9 @@
 // The network file: the number that it is refused by.
-use super::bytes::marked;
-use super::bytes::u16_at;
-use super::bytes::u32_at;
 use super::versions::least_energy;
 use super::versions::net_served;
+use bytes::marked;
+use bytes::u16_at;
+use bytes::u32_at;
 use paths::energy::Energy;
 use paths::seconds::Seconds;
 ghost use mathlib.Core.Path.{_≡_};

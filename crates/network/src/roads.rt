@@ -1,17 +1,17 @@
 // The roads of a network that passed, and the roads at each junction in file order.
-use super::bytes::u16_at;
-use super::bytes::u32_at;
+use bytes::u16_at;
+use bytes::u32_at;
 use paths::energy::Energy;
 use paths::seconds::Seconds;
 ghost use mathlib.Core.Path.{_≡_};
 ghost use mathlib.Core.Bool.{true};
 ghost use Prim.Native.Nat.{suc, _+_, _*_, _≤_, _<_};
 ghost use lib.ListN.{length};
-ghost use Rattle.network.specs.Reads.{ReadU16};
+ghost use Rattle.bytes.specs.working.Reads.{ReadU16};
 ghost use Rattle.network.specs.NetworkFile.{roadsOf};
-ghost use Rattle.network.specs.Roads.{touches, nextRoad, Grouped};
-ghost use Rattle.network.specs.RoadsRead.{ReadOther, NextsFilled, FilledBelow, GroupedFrom};
-ghost use Rattle.network.specs.Fits.{NetworkFits};
+ghost use Rattle.network.specs.working.Roads.{touches, nextRoad, Grouped};
+ghost use Rattle.network.specs.working.RoadsRead.{ReadOther, NextsFilled, FilledBelow, GroupedFrom};
+ghost use Rattle.network.specs.working.Fits.{NetworkFits};
 
 // The lower end of road k.
 pub fn road_low(net: &[u8], k: usize) -> usize

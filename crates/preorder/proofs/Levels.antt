@@ -9,8 +9,8 @@ use lib.ListN.{length, getD, set, length-set}
 use lib.Seq.{getD-set-same, getD-set-other}
 use Rattle.network.specs.NetworkFile.{junctionsOf}
 use Rattle.forest.specs.Forest.{depthOf}
-use Rattle.forest.specs.Fits.{ParentsFit}
-use Rattle.preorder.specs.Levels.{First, LevelsFrom, Levels}
+use Rattle.forest.specs.working.Fits.{ParentsFit}
+use Rattle.preorder.specs.working.Levels.{First, LevelsFrom, Levels}
 
 -- ---- The first of a level
 

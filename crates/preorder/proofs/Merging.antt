@@ -11,10 +11,10 @@ use lib.Seq.{getD-set-same, getD-set-other}
 use Rattle.network.specs.NetworkFile.{junctionsOf}
 use Rattle.forest.specs.LabelFile.{parentAt, noParent}
 use Rattle.forest.specs.Forest.{depthOf}
-use Rattle.forest.specs.Fits.{ParentsFit}
+use Rattle.forest.specs.working.Fits.{ParentsFit}
 use Rattle.forest.proofs.Chains.{IsRoot, root?, Climbed, one-up}
-use Rattle.preorder.specs.Levels.{First, LevelsFrom, Deeper}
-use Rattle.preorder.specs.Blocks.{Apart, sumOf, Merged, AllMerged, OffsetsSmall}
+use Rattle.preorder.specs.working.Levels.{First, LevelsFrom, Deeper}
+use Rattle.preorder.specs.working.Blocks.{Apart, sumOf, Merged, AllMerged, OffsetsSmall}
 use Rattle.preorder.proofs.Sums.{sum-set, place-in-sum, sum-ones}
 
 -- ---- What counts as done

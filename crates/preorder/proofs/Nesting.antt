@@ -11,11 +11,11 @@ use Rattle.paths.specs.Forest.{Above, parent-is, parent-has, Ancestor}
 use Rattle.network.specs.NetworkFile.{junctionsOf}
 use Rattle.forest.specs.LabelFile.{parentAt, parentsOf}
 use Rattle.forest.specs.Forest.{depthOf, ancestorOf}
-use Rattle.forest.specs.Fits.{ParentsFit}
+use Rattle.forest.specs.working.Fits.{ParentsFit}
 use Rattle.forest.proofs.Chains.{IsRoot, root?, depth-none, depth-some, Climbed, one-up, climbed}
 use Rattle.forest.proofs.Forest.{parents-some, ancestor-is-up, above-is-up}
-use Rattle.preorder.specs.Numbered.{Numbered}
-use Rattle.preorder.specs.Blocks.{Apart, AllMerged, Placed, Spread, Listed}
+use Rattle.preorder.specs.working.Numbered.{Numbered}
+use Rattle.preorder.specs.working.Blocks.{Apart, AllMerged, Placed, Spread, Listed}
 use Rattle.preorder.proofs.Onto.{Hit, onto}
 
 -- ---- Blocks that nest

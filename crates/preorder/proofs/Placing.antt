@@ -10,10 +10,10 @@ use lib.Seq.{getD-set-same, getD-set-other}
 use Rattle.network.specs.NetworkFile.{junctionsOf}
 use Rattle.forest.specs.LabelFile.{parentAt, noParent}
 use Rattle.forest.specs.Forest.{depthOf}
-use Rattle.forest.specs.Fits.{ParentsFit}
+use Rattle.forest.specs.working.Fits.{ParentsFit}
 use Rattle.forest.proofs.Chains.{Climbed, one-up}
-use Rattle.preorder.specs.Levels.{First, Higher}
-use Rattle.preorder.specs.Blocks.{OffsetsSmall, Placed, Spread, Listed}
+use Rattle.preorder.specs.working.Levels.{First, Higher}
+use Rattle.preorder.specs.working.Blocks.{OffsetsSmall, Placed, Spread, Listed}
 
 -- ---- No junction yet
 

@@ -4,7 +4,7 @@ use mathlib.Core.List.{List, [], _∷_}
 use Prim.Native.Nat.{ℕ, zero, suc, _+_, _≤_, _<_}
 use native.Mathlib.Omega.{arith}
 use lib.ListN.{length, getD, set, replicate}
-use Rattle.preorder.specs.Blocks.{sumOf}
+use Rattle.preorder.specs.working.Blocks.{sumOf}
 
 -- a place that is set anew gives what it had and takes what it gets
 pub sum-set : (l : List ℕ) (i x : ℕ) → i < length l → sumOf (set l i x) + getD l i 0 ≡ sumOf l + x

@@ -1,4 +1,2 @@
--- The junctions in an order in which the descendants of each stand right behind it. Read in this order.
-pub mod Numbered
-pub mod Levels
-pub mod Blocks
+-- Nothing here is part of what the calls promise: `working` has the contracts between functions.
+pub mod working

@@ -1,15 +1,15 @@
 // The numbering, in one pass over the junctions for each step: chains by depth, blocks from the deepest up, spots from the roots down.
+use bytes::u16_at;
 use forest::parents::parent_at;
-use network::bytes::u16_at;
 ghost use mathlib.Core.Path.{_≡_};
 ghost use Prim.Native.Nat.{_+_, _<_};
 ghost use lib.ListN.{length};
 ghost use Rattle.network.specs.NetworkFile.{junctionsOf};
 ghost use Rattle.forest.specs.Forest.{depthOf};
-ghost use Rattle.forest.specs.Fits.{ParentsFit, DepthsFilled};
-ghost use Rattle.preorder.specs.Numbered.{Numbered};
-ghost use Rattle.preorder.specs.Levels.{LevelsFrom, Levels};
-ghost use Rattle.preorder.specs.Blocks.{Merged, AllMerged, OffsetsSmall, Placed, Spread, Listed};
+ghost use Rattle.forest.specs.working.Fits.{ParentsFit, DepthsFilled};
+ghost use Rattle.preorder.specs.working.Numbered.{Numbered};
+ghost use Rattle.preorder.specs.working.Levels.{LevelsFrom, Levels};
+ghost use Rattle.preorder.specs.working.Blocks.{Merged, AllMerged, OffsetsSmall, Placed, Spread, Listed};
 
 const NO_PARENT: u32 = 65535;
 

@@ -15,10 +15,10 @@ use Rattle.paths.proofs.Weights.{notLater-refl, notLater-trans}
 use Rattle.lists.specs.Entries.{Weight}
 use Rattle.lists.proofs.Walk.{Compared, pair-is}
 use Rattle.forest.specs.LabelFile.{countAt, timeAt, energyAt}
-use Rattle.stored.specs.Formed.{ListFits}
+use Rattle.stored.specs.working.Formed.{ListFits}
 use Rattle.query.specs.declared.across.Sum.{Sum}
 use Rattle.query.specs.declared.across.Best.{Best}
-use Rattle.query.specs.Sums.{FittingFrom, SlowBefore, sumOf, SumIn, Only, pairOf, SumIs, Placed, Improves, SomeSum, Extends, WalkStart, WorthWalking}
+use Rattle.query.specs.working.Sums.{FittingFrom, SlowBefore, sumOf, SumIn, Only, pairOf, SumIs, Placed, Improves, SomeSum, Extends, WalkStart, WorthWalking}
 use Rattle.query.proofs.ListPlaces.{energies-rise, times-fall}
 
 -- ---- The sums of two lists

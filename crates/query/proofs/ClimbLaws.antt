@@ -10,16 +10,16 @@ use Rattle.paths.specs.Forest.{Above, Ancestor, Common}
 use Rattle.network.specs.NetworkFile.{junctionsOf}
 use Rattle.forest.specs.LabelFile.{parentAt, parentsOf}
 use Rattle.forest.specs.Forest.{depthOf, ancestorOf}
-use Rattle.forest.specs.Fits.{DepthsFilled}
+use Rattle.forest.specs.working.Fits.{DepthsFilled}
 use Rattle.forest.proofs.Chains.{ancestor-none, ancestor-more, Climbed, climbed}
 use Rattle.forest.proofs.Forest.{ancestor-at, ancestor-is-up, above-is-up}
 use Rattle.stored.specs.Stored.{placeOf, listPlace}
-use Rattle.stored.specs.Formed.{Formed, StartsFilled, ListFits}
+use Rattle.stored.specs.working.Formed.{Formed, StartsFilled, ListFits}
 use Rattle.hoplinks.proofs.Branches.{no-deeper, stays-above}
 use Rattle.query.specs.declared.Between.{Between}
 use Rattle.query.specs.declared.climbing.Climb.{Climb}
-use Rattle.query.specs.Levels.{behind}
-use Rattle.query.specs.Between.{Climbs, Steps, Abreast, ListsBetween, Leads}
+use Rattle.query.specs.working.Levels.{behind}
+use Rattle.query.specs.working.Between.{Climbs, Steps, Abreast, ListsBetween, Leads}
 use Rattle.query.proofs.ListPlaces.{count-stands}
 use Rattle.query.proofs.MarkedSums.{level-next, level-fits, level-place}
 

@@ -13,13 +13,13 @@ use Rattle.paths.specs.Weights.{energy, pair, time, spent, Within, NotLater, sa
 use Rattle.lists.specs.Entries.{Weight}
 use Rattle.forest.specs.LabelFile.{countAt, timeAt, energyAt, listEnd}
 use Rattle.stored.specs.Stored.{listAt}
-use Rattle.stored.specs.Formed.{ListFits}
+use Rattle.stored.specs.working.Formed.{ListFits}
 use Rattle.stored.proofs.Tabulate.{Stands, member-stands, tabulate-member}
 use Rattle.query.specs.declared.Answer.{Answer}
 use Rattle.query.specs.declared.Answer.the-variants as case
-use Rattle.query.specs.Answers.{numberOf, timeOf, energyOf}
-use Rattle.query.specs.AnswerFrom.{EntryOf, AnswerFrom, found, over-limit, not-connected}
-use Rattle.query.specs.Sums.{FittingFrom, SlowBefore}
+use Rattle.query.specs.working.AnswerValues.{numberOf, timeOf, energyOf}
+use Rattle.query.specs.working.AnswerFrom.{EntryOf, AnswerFrom, found, over-limit, not-connected}
+use Rattle.query.specs.working.Sums.{FittingFrom, SlowBefore}
 
 module _ {s : List ℕ} {at : ℕ} (fits : ListFits s at) where
   -- ---- What stands in the file

@@ -7,9 +7,9 @@ use Rattle.network.specs.NetworkFile.{junctionsOf}
 use Rattle.forest.specs.LabelFile.{listEnd}
 use Rattle.forest.specs.Forest.{depthOf}
 use Rattle.stored.specs.Stored.{listsBefore, placeOf, listPlace}
-use Rattle.stored.specs.Formed.{Formed, ListFits}
+use Rattle.stored.specs.working.Formed.{Formed, ListFits}
 use Rattle.stored.proofs.Places.{place-next, list-number-of}
-use Rattle.query.specs.Levels.{behind}
+use Rattle.query.specs.working.Levels.{behind}
 
 -- the list for the next ancestor up stands behind
 pub level-next : (s : List ℕ) (v level : ℕ) → level < depthOf s v → listEnd s (behind s v (suc level)) ≡ behind s v level

@@ -11,13 +11,13 @@ use Rattle.paths.specs.Weights.{energy, time, Within, NotLater, same, sooner, b
 use Rattle.lists.specs.Entries.{Weight}
 use Rattle.forest.specs.LabelFile.{listEnd}
 use Rattle.stored.specs.ListForm.{mostBytes}
-use Rattle.stored.specs.Formed.{ListFits}
-use Rattle.stored.specs.Scanned.{further}
+use Rattle.stored.specs.working.Formed.{ListFits}
+use Rattle.stored.specs.working.Scanned.{further}
 use Rattle.stored.proofs.Places.{further-next, further-none}
 use Rattle.query.specs.declared.Answer.{Answer}
 use Rattle.query.specs.declared.across.Best.{Best}
-use Rattle.query.specs.AnswerFrom.{AnswerFrom, found, over-limit, not-connected}
-use Rattle.query.specs.Sums.{noTime, SumIn, Only, Row, RowFits, Placed, SomeSum, Extends, Unknown, Told, told-found, told-over, told-apart}
+use Rattle.query.specs.working.AnswerFrom.{AnswerFrom, found, over-limit, not-connected}
+use Rattle.query.specs.working.Sums.{noTime, SumIn, Only, Row, RowFits, Placed, SomeSum, Extends, Unknown, Told, told-found, told-over, told-apart}
 use Rattle.query.proofs.ListPlaces.{count-stands}
 use Rattle.query.proofs.BestSums.{ListParts, extends-kept, extends-then}
 

@@ -24,25 +24,26 @@ use Rattle.network.specs.NetworkFile.{networkOf, junctionsOf}
 use Rattle.forest.specs.LabelFile.{parentsOf, countAt}
 use Rattle.forest.specs.Forest.{depthOf, ancestorOf}
 use Rattle.stored.specs.Stored.{listsBefore, placeOf, listPlace, listAt, stored}
-use Rattle.forest.specs.Fits.{ParentsFit}
-use Rattle.stored.specs.Formed.{Formed, ListFits}
-use Rattle.stored.specs.Scanned.{further}
+use Rattle.forest.specs.working.Fits.{ParentsFit}
+use Rattle.stored.specs.working.Formed.{Formed, ListFits}
+use Rattle.stored.specs.working.Scanned.{further}
 use Rattle.stored.proofs.Tabulate.{member-stands, tabulate-member}
 use Rattle.stored.proofs.Places.{further-place}
 use Rattle.forest.proofs.Chains.{climbed}
 use Rattle.forest.proofs.Forest.{AncestorAt, ancestor-at, ancestor-is-up, above-shallower}
-use Rattle.agree.proofs.Exactness.{below-on-map, stored-fits, roads-two-way, parents-forest, roads-joined}
-use Rattle.hoplinks.specs.Meeting.{MeetsAt, HopMarks}
+use Rattle.stored.proofs.Passed.{below-on-map, stored-fits, roads-two-way, parents-forest, roads-joined}
+use Rattle.hoplinks.specs.working.Meeting.{MeetsAt, HopMarks}
 use Rattle.query.specs.declared.Answer.{Answer}
 use Rattle.query.specs.declared.Between.{Between}
 use Rattle.query.specs.declared.Between.the-variants.{Nothing, List as OneList, Lists as TwoLists}
-use Rattle.query.specs.Prepared.{Prepared}
-use Rattle.query.specs.Answers.{numberOf, timeOf, energyOf, Answers}
+use Rattle.query.specs.working.Prepared.{Prepared}
+use Rattle.query.specs.working.AnswerValues.{numberOf, timeOf, energyOf}
+use Rattle.query.specs.Answers.{Answers}
 use Rattle.query.specs.Answers as whole
-use Rattle.query.specs.AnswerFrom.{EntryOf, AnswerFrom, found, over-limit, not-connected}
-use Rattle.query.specs.Levels.{behind, MarkedSum, Branches}
-use Rattle.query.specs.Between.{ListBetween, ListsBetween, Leads}
-use Rattle.query.specs.Sums.{SumAt, SumIn, Row, RowFits}
+use Rattle.query.specs.working.AnswerFrom.{EntryOf, AnswerFrom, found, over-limit, not-connected}
+use Rattle.query.specs.working.Levels.{behind, MarkedSum, Branches}
+use Rattle.query.specs.working.Between.{ListBetween, ListsBetween, Leads}
+use Rattle.query.specs.working.Sums.{SumAt, SumIn, Row, RowFits}
 use Rattle.query.proofs.ListPlaces.{entry}
 use Rattle.query.proofs.MarkedSums.{level-fits, level-place}
 

@@ -1,8 +1,3 @@
--- What a query on an accepted set answers. Read in this order.
-pub mod Ready
-pub mod Prepared
+-- What a query on an accepted set answers.
 pub mod Answers
-pub mod AnswerFrom
-pub mod Levels
-pub mod Between
-pub mod Sums
+pub mod working

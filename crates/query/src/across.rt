@@ -16,8 +16,8 @@ ghost use mathlib.Core.Bool.{true, false};
 ghost use Prim.Native.Nat.{_<_};
 ghost use Rattle.paths.specs.Weights.{energy, Sooner, NotLater};
 ghost use Rattle.forest.specs.LabelFile.{countAt};
-ghost use Rattle.stored.specs.Formed.{ListFits};
-ghost use Rattle.query.specs.Sums.{pairOf, SumIs, Only, Row, RowFits, Improves, Extends, WalkStart, WorthWalking};
+ghost use Rattle.stored.specs.working.Formed.{ListFits};
+ghost use Rattle.query.specs.working.Sums.{pairOf, SumIs, Only, Row, RowFits, Improves, Extends, WalkStart, WorthWalking};
 
 // A sum of two entries and where it stands: entry i of the list at byte `near` and entry j of the list at byte `far`.
 pub struct Sum {

@@ -8,10 +8,10 @@ ghost use Prim.Native.Nat.{_+_, _-_, _*_, _≤_, _<_};
 ghost use lib.ListN.{length};
 ghost use Rattle.network.specs.NetworkFile.{junctionsOf};
 ghost use Rattle.forest.specs.Forest.{depthOf};
-ghost use Rattle.forest.specs.Fits.{DepthsFilled};
+ghost use Rattle.forest.specs.working.Fits.{DepthsFilled};
 ghost use Rattle.stored.specs.ListForm.{mostBytes};
-ghost use Rattle.stored.specs.Formed.{Formed, StartsFilled};
-ghost use Rattle.query.specs.Between.{Climbs, Steps, Abreast, Leads};
+ghost use Rattle.stored.specs.working.Formed.{Formed, StartsFilled};
+ghost use Rattle.query.specs.working.Between.{Climbs, Steps, Abreast, Leads};
 
 // The climb of a junction: an ancestor of it, at first the junction itself, and the byte of its list for that one's parent.
 pub struct Climb {

@@ -6,8 +6,8 @@ use paths::energy::Energy;
 use stored::stored::energy_at;
 use stored::stored::time_at;
 ghost use Rattle.stored.specs.Stored.{listAt};
-ghost use Rattle.stored.specs.Formed.{ListFits};
-ghost use Rattle.query.specs.AnswerFrom.{EntryOf, AnswerFrom};
+ghost use Rattle.stored.specs.working.Formed.{ListFits};
+ghost use Rattle.query.specs.working.AnswerFrom.{EntryOf, AnswerFrom};
 
 // The answer of the list at a byte.
 pub fn from_list(labels: &[u8], at: usize, limit: Energy) -> Answer

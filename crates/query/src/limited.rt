@@ -6,15 +6,16 @@ use crate::across::Sum;
 use crate::across::across;
 use crate::climbing::between;
 use crate::direct::from_list;
-use network::bytes::u16_at;
+use bytes::u16_at;
 use paths::energy::Energy;
 use paths::seconds::Seconds;
 ghost use Prim.Native.Nat.{_<_};
 ghost use Rattle.network.specs.NetworkFile.{junctionsOf};
-ghost use Rattle.query.specs.Prepared.{Prepared};
-ghost use Rattle.query.specs.Answers.{numberOf, timeOf, energyOf, Answers};
-ghost use Rattle.query.specs.AnswerFrom.{AnswerFrom};
-ghost use Rattle.query.specs.Sums.{SumIn, Row, RowFits, Unknown, Told};
+ghost use Rattle.query.specs.working.Prepared.{Prepared};
+ghost use Rattle.query.specs.working.AnswerValues.{numberOf, timeOf, energyOf};
+ghost use Rattle.query.specs.Answers.{Answers};
+ghost use Rattle.query.specs.working.AnswerFrom.{AnswerFrom};
+ghost use Rattle.query.specs.working.Sums.{SumIn, Row, RowFits, Unknown, Told};
 
 // Later than any path, so that every sum comes before it.
 const NO_TIME: u32 = 4294967295;

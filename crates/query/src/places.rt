@@ -1,6 +1,6 @@
 // Places in a stored list, read where it stands. Energy rises along a list and time falls, so that halving finds where either passes
 // a bound.
-use network::bytes::u16_at;
+use bytes::u16_at;
 use paths::energy::Energy;
 use paths::seconds::Seconds;
 use stored::stored::energy_at;
@@ -10,8 +10,8 @@ ghost use Prim.Native.Nat.{_≤_};
 ghost use lib.Dec.{ltb};
 ghost use Rattle.forest.specs.LabelFile.{countAt};
 ghost use Rattle.stored.specs.ListForm.{mostFigure};
-ghost use Rattle.stored.specs.Formed.{ListFits};
-ghost use Rattle.query.specs.Sums.{FittingFrom, SlowBefore};
+ghost use Rattle.stored.specs.working.Formed.{ListFits};
+ghost use Rattle.query.specs.working.Sums.{FittingFrom, SlowBefore};
 
 // How many entries the list at a byte has.
 pub fn count_at(labels: &[u8], at: usize) -> usize

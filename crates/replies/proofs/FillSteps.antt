@@ -8,7 +8,7 @@ use native.Mathlib.Omega.{arith}
 use lib.ListN.{length, take}
 use Rattle.text.specs.Lines.{LineEnds, lineOf}
 use Rattle.replies.specs.Printed.{Replies, none, more}
-use Rattle.replies.specs.Working.{Replied, FilledTo}
+use Rattle.replies.specs.working.Buffer.{Replied, FilledTo}
 
 -- The replies so far stand in the first bytes of the buffer
 pub record Filling (net input : List ℕ) (from : ℕ) (out : List ℕ) (next used : ℕ) : Type 0 where

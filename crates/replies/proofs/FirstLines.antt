@@ -4,12 +4,12 @@ use mathlib.Core.List.{List}
 use Prim.Native.Nat.{ℕ, _≤_}
 use native.Mathlib.Omega.{arith}
 use lib.ListN.{length}
-use Rattle.network.specs.Bytes.{u32At}
-use Rattle.network.specs.Reads.{ReadU16}
-use Rattle.labels.specs.Working.{Accepting}
+use Rattle.bytes.specs.Bytes.{u32At}
+use Rattle.bytes.specs.working.Reads.{ReadU16}
+use Rattle.labels.specs.working.Working.{Accepting}
 use Rattle.labels.proofs.Accepted.{ready-for-queries}
 use Rattle.replies.specs.Lines.{headingLine, refusedLine}
-use Rattle.replies.specs.Working.{Put, Ready, Places, FirstLine}
+use Rattle.replies.specs.working.Buffer.{Put, Ready, Places, FirstLine}
 
 module _ {net s depths starts heads nexts : List ℕ} {number : ℕ} (accepting : Accepting net s number depths starts heads nexts) where
   -- what queries stand on

@@ -9,10 +9,10 @@ use lib.ListN.{length, getD, take, drop}
 use lib.Seq.{take-suc, length-take-le, drop-append-le}
 use Rattle.text.specs.Numbers.{numeral, spaceByte}
 use Rattle.text.specs.Lines.{newlineByte}
-use Rattle.text.specs.Writing.{Appended}
+use Rattle.text.specs.working.Writing.{Appended}
 use Rattle.text.proofs.WritingLaws.{appended-none, appended-then, numeral-length}
 use Rattle.replies.specs.Lines.{hyphenByte, hyphensThen, hyphened, noRoute, ended, _␣_, answerLine, networkWord, labelsWord, refusedWord, headingLine, refusedLine}
-use Rattle.replies.specs.Working.{Put, word, answerWords}
+use Rattle.replies.specs.working.Buffer.{Put, word, answerWords}
 
 -- ---- Text of bounded length
 

@@ -5,7 +5,7 @@ use Prim.Native.Nat.{ℕ, _≤_}
 use lib.ListN.{length, take}
 use Rattle.replies.specs.Printed.{Replies, none, more, Printed}
 use Rattle.replies.specs.Printed as printed
-use Rattle.replies.specs.Working.{FirstLine, FilledTo}
+use Rattle.replies.specs.working.Buffer.{FirstLine, FilledTo}
 
 -- replies that go on where others end
 replies-then :

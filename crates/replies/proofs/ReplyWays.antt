@@ -5,17 +5,19 @@ use mathlib.Core.List.{List}
 use Prim.Native.Nat.{ℕ, zero, suc, _≤_}
 use native.Mathlib.Omega.{arith}
 use lib.ListN.{length, take}
-use Rattle.text.specs.Queries.{IsQuery, BadLine, QueryRead, query, bad}
+use Rattle.text.specs.Queries.{IsQuery, BadLine}
+use Rattle.text.specs.working.Reading.{query, bad}
+use Rattle.text.specs.working.Reading.{QueryRead}
 use Rattle.text.specs.declared.QueryLine.{QueryLine}
 use Rattle.text.specs.declared.QueryLine.the-variants as line
 use Rattle.paths.specs.Weights.{pair}
 use Rattle.paths.specs.Network.{Walk, stay, go, junctions}
 use Rattle.network.specs.NetworkFile.{networkOf}
 use Rattle.query.specs.Answers.{Answers}
-use Rattle.routes.specs.Written.{RouteFound}
+use Rattle.routes.specs.working.Written.{RouteFound}
 use Rattle.replies.specs.Lines.{answerLine, badLine, hyphened, noRoute}
 use Rattle.replies.specs.Reply as reply
-use Rattle.replies.specs.Working.{Put, QueryReplied, Replied}
+use Rattle.replies.specs.working.Buffer.{Put, QueryReplied, Replied}
 
 -- ---- A route
 

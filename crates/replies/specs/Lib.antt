@@ -2,4 +2,4 @@
 pub mod Lines
 pub mod Reply
 pub mod Printed
-pub mod Working
+pub mod working

@@ -2,12 +2,12 @@
 use crate::Begun;
 use crate::lines::put_heading;
 use crate::lines::put_refused;
+use bytes::u16_at;
+use bytes::u32_at;
 use labels::accept::accept;
-use network::bytes::u16_at;
-use network::bytes::u32_at;
 ghost use mathlib.Core.Path.{_≡_};
 ghost use lib.ListN.{length};
-ghost use Rattle.replies.specs.Working.{FirstLine};
+ghost use Rattle.replies.specs.working.Buffer.{FirstLine};
 
 // Checks the files once and puts the heading, or the refusal, at the start of the buffer.
 pub fn begin(

@@ -5,7 +5,7 @@ use text::read::line_end;
 ghost use mathlib.Core.Path.{_≡_};
 ghost use Prim.Native.Nat.{_≤_};
 ghost use lib.ListN.{length};
-ghost use Rattle.replies.specs.Working.{Ready, Places, FilledTo};
+ghost use Rattle.replies.specs.working.Buffer.{Ready, Places, FilledTo};
 
 // Replies to the lines from byte `from` on as long as the longest reply is sure to fit.
 pub fn fill(

@@ -8,7 +8,7 @@ ghost use Prim.Native.Nat.{_+_, _≤_};
 ghost use lib.ListN.{length, take};
 ghost use Rattle.text.specs.Numbers.{numeral};
 ghost use Rattle.replies.specs.Lines.{hyphenByte, hyphened, noRoute, answerLine, badLine, headingLine, refusedLine};
-ghost use Rattle.replies.specs.Working.{Put, word, answerWords};
+ghost use Rattle.replies.specs.working.Buffer.{Put, word, answerWords};
 
 fn put_word(out: &mut [u8], at: usize, number: u32) -> usize
     requires { ⌜ at + 11 ≤ length (now out) ⌝ }

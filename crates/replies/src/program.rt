@@ -5,7 +5,7 @@ ghost use mathlib.Core.Path.{_≡_};
 ghost use Prim.Native.Nat.{_≤_};
 ghost use lib.ListN.{length};
 ghost use Rattle.io.specs.Counts.{Counts};
-ghost use Rattle.replies.specs.Working.{Ready, Places};
+ghost use Rattle.replies.specs.working.Buffer.{Ready, Places};
 
 // How many bytes of the file stand in the buffer; none if it is longer than the buffer or cannot be read.
 fn read_file(path: &[u8], buffer: &mut [u8]) -> usize

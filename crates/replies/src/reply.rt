@@ -15,7 +15,7 @@ ghost use Prim.Native.Nat.{_+_, _≤_};
 ghost use lib.ListN.{length};
 ghost use Rattle.text.specs.Lines.{lineOf};
 ghost use Rattle.query.specs.Answers.{Answers};
-ghost use Rattle.replies.specs.Working.{QueryReplied, Replied, Ready, Places};
+ghost use Rattle.replies.specs.working.Buffer.{QueryReplied, Replied, Ready, Places};
 
 // The line of a found pair, with its first route.
 fn put_found(

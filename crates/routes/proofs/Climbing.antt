@@ -8,17 +8,18 @@ use lib.ListN.{length, getD}
 use Rattle.network.specs.NetworkFile.{junctionsOf}
 use Rattle.forest.specs.LabelFile.{parentAt, listEnd}
 use Rattle.forest.specs.Forest.{depthOf, ancestorOf}
-use Rattle.forest.specs.Fits.{DepthsFilled}
-use Rattle.forest.specs.ParentsRead.{AncestorRead}
+use Rattle.forest.specs.working.Fits.{DepthsFilled}
+use Rattle.forest.specs.working.ParentsRead.{AncestorRead}
 use Rattle.forest.proofs.Chains.{climbed, one-up, depth-some, ancestor-none, ancestor-more}
-use Rattle.stored.specs.Stored.{placeOf, startOf}
+use Rattle.stored.specs.Stored.{placeOf}
+use Rattle.stored.specs.working.Formed.{startOf}
 use Rattle.stored.specs.ListForm.{mostBytes}
-use Rattle.stored.specs.Formed.{Formed, ListFits}
+use Rattle.stored.specs.working.Formed.{Formed, ListFits}
 use Rattle.hoplinks.proofs.Branches.{SideBySide, side-start, side-met, side-more}
-use Rattle.query.specs.Levels.{behind}
+use Rattle.query.specs.working.Levels.{behind}
 use Rattle.query.proofs.ListPlaces.{count-stands}
 use Rattle.query.proofs.MarkedSums.{level-next, level-fits}
-use Rattle.routes.specs.Climbing.{OneUp, OnClimb, MeetsWith}
+use Rattle.routes.specs.working.Climbing.{OneUp, OnClimb, MeetsWith}
 
 -- Of `steps` steps up from v, k are made
 pub record Rising (s : List ℕ) (v steps k up own next : ℕ) : Type 0 where

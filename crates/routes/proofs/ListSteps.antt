@@ -27,19 +27,20 @@ use Rattle.network.specs.NetworkFile.{junctionsOf, networkOf}
 use Rattle.network.proofs.Arcs.{network-finite}
 use Rattle.forest.specs.LabelFile.{parentsOf, countAt, timeAt, energyAt}
 use Rattle.stored.specs.Stored.{tabulate, listAt}
-use Rattle.stored.specs.Scanned.{Loaded}
+use Rattle.stored.specs.working.Scanned.{Loaded}
 use Rattle.stored.proofs.Tabulate.{length-tabulate}
-use Rattle.agree.proofs.Exactness.{below-on-map, parents-forest, roads-joined}
+use Rattle.stored.proofs.Passed.{below-on-map, parents-forest, roads-joined}
 use Rattle.query.specs.declared.Answer.the-variants as case
-use Rattle.query.specs.Prepared.{Prepared}
-use Rattle.query.specs.Answers.{numberOf, timeOf, energyOf, Answers, off-map, not-connected, over-limit, found}
-use Rattle.query.specs.Between.{ListBetween, ListsBetween}
-use Rattle.query.specs.Sums.{SumIn, Row}
+use Rattle.query.specs.working.Prepared.{Prepared}
+use Rattle.query.specs.working.AnswerValues.{numberOf, timeOf, energyOf}
+use Rattle.query.specs.Answers.{Answers, off-map, not-connected, over-limit, found}
+use Rattle.query.specs.working.Between.{ListBetween, ListsBetween}
+use Rattle.query.specs.working.Sums.{SumIn, Row}
 use Rattle.query.proofs.WholeAnswers.{StandsFor, row-fits, row-stands, list-between-right, answer-lists}
 use Rattle.routes.specs.declared.spans.Span.{Span}
 use Rattle.routes.specs.declared.spans.Next.{Next}
-use Rattle.routes.specs.Spans.{spanSeconds, Waiting, NoSpan, NextBelow}
-use Rattle.routes.specs.Written.{ListWritten}
+use Rattle.routes.specs.working.Spans.{spanSeconds, Waiting, NoSpan, NextBelow}
+use Rattle.routes.specs.working.Written.{ListWritten}
 use Rattle.routes.proofs.RouteWay.{alone-spends-none}
 use Rattle.routes.proofs.SpanLaws.{row-small, waiting-start}
 

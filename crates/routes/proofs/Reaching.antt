@@ -11,24 +11,24 @@ use Rattle.paths.specs.Forest.{Above, Common}
 use Rattle.paths.proofs.Crossing.{apart-without-common}
 use Rattle.network.specs.NetworkFile.{junctionsOf}
 use Rattle.lists.specs.Entries.{Weight}
-use Rattle.lists.specs.Cover.{Decides}
+use Rattle.refusals.specs.working.Decides.{Decides}
 use Rattle.forest.specs.LabelFile.{parentsOf}
 use Rattle.forest.specs.Forest.{depthOf}
 use Rattle.forest.proofs.Forest.{above-shallower}
 use Rattle.stored.specs.Stored.{listsBefore, placeOf, listAt, stored}
-use Rattle.stored.specs.Formed.{Formed, ListFits}
-use Rattle.stored.specs.Scanned.{further}
+use Rattle.stored.specs.working.Formed.{Formed, ListFits}
+use Rattle.stored.specs.working.Scanned.{further}
 use Rattle.stored.proofs.Places.{further-place}
-use Rattle.agree.proofs.Exactness.{parents-forest, roads-joined}
-use Rattle.hoplinks.specs.Meeting.{HopMarks}
-use Rattle.query.specs.Prepared.{Prepared}
-use Rattle.query.specs.AnswerFrom.{EntryOf}
-use Rattle.query.specs.Levels.{behind, MarkedSum, Branches}
-use Rattle.routes.specs.Reach.{PathWithin}
-use Rattle.routes.specs.Searched.{HasWithin, ListsUp, SumUp, Held}
+use Rattle.stored.proofs.Passed.{parents-forest, roads-joined}
+use Rattle.hoplinks.specs.working.Meeting.{HopMarks}
+use Rattle.query.specs.working.Prepared.{Prepared}
+use Rattle.query.specs.working.AnswerFrom.{EntryOf}
+use Rattle.query.specs.working.Levels.{behind, MarkedSum, Branches}
+use Rattle.routes.specs.working.Reach.{PathWithin}
+use Rattle.routes.specs.working.Searched.{HasWithin, ListsUp, SumUp, Held}
 use Rattle.routes.specs.declared.climb.Met.{Met}
 use Rattle.routes.specs.declared.climb.Met.the-variants.{At, Nowhere}
-use Rattle.routes.specs.Climbing.{MeetsWith, MetWithLists}
+use Rattle.routes.specs.working.Climbing.{MeetsWith, MetWithLists}
 use Rattle.query.proofs.MarkedSums.{level-place, level-fits}
 use Rattle.query.proofs.WholeAnswers.{StandsFor, proper, tradeOff-stands, stored-up, stored-down, marked-stands, meets-start, meets-finish}
 use Rattle.routes.proofs.Searching.{not-both, found-yes}

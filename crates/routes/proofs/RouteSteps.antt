@@ -17,15 +17,15 @@ use Rattle.paths.proofs.Figures.{number-lawful}
 use Rattle.paths.proofs.Weights.{weights-lawful, ⊕-cancel-eq-right}
 use Rattle.paths.proofs.RouteStep.{Smallest, firstAmong-same, first-step, rest-of-only-arc, covering-spends, rest-skyline}
 use Rattle.network.specs.NetworkFile.{junctionsOf, roadsOf, roadTime, roadEnergy, RoadArc, networkOf}
-use Rattle.network.specs.Roads.{touches, otherEnd, nextRoad, Grouped}
-use Rattle.network.specs.RoadsRead.{NextsFilled}
-use Rattle.network.specs.Fits.{NetworkFits}
+use Rattle.network.specs.working.Roads.{touches, otherEnd, nextRoad, Grouped}
+use Rattle.network.specs.working.RoadsRead.{NextsFilled}
+use Rattle.network.specs.working.Fits.{NetworkFits}
 use Rattle.network.proofs.Arcs.{one-weight}
 use Rattle.network.proofs.GroupedRoads.{nexts-filled}
 use Rattle.network.proofs.RoadsAt.{nextRoad-low, nextRoad-touches, nextRoad-passed, touches-arc, arc-touches, others-rise}
-use Rattle.lists.specs.Cover.{Decides}
-use Rattle.routes.specs.Reach.{PathWithin}
-use Rattle.routes.specs.Steps.{StepFits, StepRoad}
+use Rattle.refusals.specs.working.Decides.{Decides}
+use Rattle.routes.specs.working.Reach.{PathWithin}
+use Rattle.routes.specs.working.Steps.{StepFits, StepRoad}
 
 -- ---- What is left after a road
 

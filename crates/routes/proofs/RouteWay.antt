@@ -16,12 +16,12 @@ use Rattle.paths.proofs.Weights.{weights-lawful, unbeaten-below}
 use Rattle.paths.proofs.Route.{visits-once-short, unbeaten-visits-once}
 use Rattle.paths.proofs.RouteStep.{stay-route}
 use Rattle.network.specs.NetworkFile.{junctionsOf, roadTime, roadEnergy, networkOf}
-use Rattle.network.specs.Roads.{otherEnd}
-use Rattle.network.specs.Fits.{NetworkFits}
+use Rattle.network.specs.working.Roads.{otherEnd}
+use Rattle.network.specs.working.Fits.{NetworkFits}
 use Rattle.network.proofs.Arcs.{arc-on-map}
 use Rattle.network.proofs.RoadsAt.{other-on-map}
-use Rattle.routes.specs.Steps.{StepRoad}
-use Rattle.routes.specs.Written.{RouteFound}
+use Rattle.routes.specs.working.Steps.{StepRoad}
+use Rattle.routes.specs.working.Written.{RouteFound}
 use Rattle.routes.proofs.RouteSteps.{step-arc, step-whole, step-line, step-route}
 
 -- ---- Walks on the map

@@ -12,16 +12,16 @@ use borrow.Author.Tests.{leb-true, leb-false, ltb-true}
 use Rattle.paths.specs.Weights.{weights, energy, pair, time, spent}
 use Rattle.paths.specs.TradeOff.{IsSum}
 use Rattle.lists.specs.Entries.{Weight}
-use Rattle.lists.specs.Cover.{Decides}
+use Rattle.refusals.specs.working.Decides.{Decides}
 use Rattle.forest.specs.LabelFile.{countAt, timeAt, energyAt, listEnd}
 use Rattle.stored.specs.Stored.{listAt}
-use Rattle.stored.specs.Formed.{ListFits}
-use Rattle.stored.specs.Scanned.{further}
+use Rattle.stored.specs.working.Formed.{ListFits}
+use Rattle.stored.specs.working.Scanned.{further}
 use Rattle.stored.proofs.Places.{further-none, further-next}
 use Rattle.stored.proofs.Tabulate.{Stands, member-stands, tabulate-member}
-use Rattle.query.specs.AnswerFrom.{EntryOf}
-use Rattle.query.specs.Levels.{LevelSum}
-use Rattle.routes.specs.Searched.{HasWithin, ListsUp, SumUp, FittingFrom, CoversAt, NoSum, Asked}
+use Rattle.query.specs.working.AnswerFrom.{EntryOf}
+use Rattle.query.specs.working.Levels.{LevelSum}
+use Rattle.routes.specs.working.Searched.{HasWithin, ListsUp, SumUp, FittingFrom, CoversAt, NoSum, Asked}
 
 -- false is not true
 pub not-both : {A : Type 0} → _≡_ {A = Bool} false true → A

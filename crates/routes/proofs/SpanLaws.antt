@@ -13,18 +13,18 @@ use Rattle.paths.specs.declared.seconds.Seconds.{Seconds}
 use Rattle.paths.specs.declared.energy.Energy.{Energy}
 use Rattle.lists.specs.Entries.{Weight}
 use Rattle.forest.specs.LabelFile.{countAt, timeAt, energyAt, listEnd}
-use Rattle.stored.specs.Formed.{ListFits}
+use Rattle.stored.specs.working.Formed.{ListFits}
 use Rattle.query.specs.declared.Answer.{Answer}
 use Rattle.query.specs.declared.Answer.the-variants as case
 use Rattle.query.specs.declared.across.Sum.{Sum}
-use Rattle.query.specs.Answers.{numberOf}
-use Rattle.query.specs.AnswerFrom.{BestFrom, AnswerFrom, found, over-limit, not-connected}
-use Rattle.query.specs.Sums.{FittingFrom, sumOf, SumIn, Only, Row, RowFits, SumIs}
+use Rattle.query.specs.working.AnswerValues.{numberOf}
+use Rattle.query.specs.working.AnswerFrom.{BestFrom, AnswerFrom, found, over-limit, not-connected}
+use Rattle.query.specs.working.Sums.{FittingFrom, sumOf, SumIn, Only, Row, RowFits, SumIs}
 use Rattle.query.proofs.ListPlaces.{energies-rise, times-fall}
 use Rattle.query.proofs.BestSums.{ListParts, sum-more, sum-cases}
 use Rattle.query.proofs.Rows.{row-parts, Along, along-none, along-more, along-all}
 use Rattle.routes.specs.declared.spans.Span.{Span}
-use Rattle.routes.specs.Spans.{spanSeconds, noEnergy, EntrySum, SumWithin, NoneBefore, LoweredAt, lowered, kept, Lowered, Cleared, Sought, Waiting, NoSpan, NextBelow}
+use Rattle.routes.specs.working.Spans.{spanSeconds, noEnergy, EntrySum, SumWithin, NoneBefore, LoweredAt, lowered, kept, Lowered, Cleared, Sought, Waiting, NoSpan, NextBelow}
 
 -- ---- One energy
 

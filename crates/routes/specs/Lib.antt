@@ -1,7 +1,2 @@
--- What the first route and the whole list of an accepted set are, as the code hands them back. Read in this order.
-pub mod Reach
-pub mod Searched
-pub mod Climbing
-pub mod Steps
-pub mod Spans
-pub mod Written
+-- Nothing here is part of what the calls promise: `working` has the contracts between functions.
+pub mod working

@@ -7,11 +7,11 @@ ghost use Prim.Native.Nat.{_+_, _-_, _*_, _≤_, _<_};
 ghost use lib.ListN.{length};
 ghost use Rattle.network.specs.NetworkFile.{junctionsOf};
 ghost use Rattle.forest.specs.Forest.{depthOf};
-ghost use Rattle.forest.specs.Fits.{DepthsFilled};
-ghost use Rattle.forest.specs.ParentsRead.{AncestorRead};
+ghost use Rattle.forest.specs.working.Fits.{DepthsFilled};
+ghost use Rattle.forest.specs.working.ParentsRead.{AncestorRead};
 ghost use Rattle.stored.specs.ListForm.{mostBytes};
-ghost use Rattle.stored.specs.Formed.{Formed, StartsFilled};
-ghost use Rattle.routes.specs.Climbing.{OnClimb, OneUp, MetWithLists};
+ghost use Rattle.stored.specs.working.Formed.{Formed, StartsFilled};
+ghost use Rattle.routes.specs.working.Climbing.{OnClimb, OneUp, MetWithLists};
 
 // A junction on the way up, the byte of the list for it, and the byte of the list for its parent.
 pub struct Climb {

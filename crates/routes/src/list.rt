@@ -17,10 +17,10 @@ ghost use lib.ListN.{length};
 ghost use Rattle.paths.specs.TradeOff.{IsTradeOff};
 ghost use Rattle.lists.specs.Entries.{Weight};
 ghost use Rattle.network.specs.NetworkFile.{junctionsOf, networkOf};
-ghost use Rattle.query.specs.Prepared.{Prepared};
-ghost use Rattle.query.specs.Between.{ListsBetween};
-ghost use Rattle.routes.specs.Spans.{spanSeconds, NoSpan};
-ghost use Rattle.routes.specs.Written.{ListWritten};
+ghost use Rattle.query.specs.working.Prepared.{Prepared};
+ghost use Rattle.query.specs.working.Between.{ListsBetween};
+ghost use Rattle.routes.specs.working.Spans.{spanSeconds, NoSpan};
+ghost use Rattle.routes.specs.working.Written.{ListWritten};
 
 // More than the energy of any entry.
 const ABOVE_ALL: u32 = 2147483647;

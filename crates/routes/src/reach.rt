@@ -1,8 +1,8 @@
 // Whether a path takes no more than a pair in either figure: what the route's step asks. Stored lists are read where they stand.
 use super::climb::Met;
 use super::climb::meet;
+use bytes::u16_at;
 use hoplinks::hoplinks::mark_hoplinks;
-use network::bytes::u16_at;
 use paths::energy::Energy;
 use paths::seconds::Seconds;
 use stored::place::Place;
@@ -15,17 +15,17 @@ ghost use Prim.Native.Nat.{_≤_, _<_};
 ghost use lib.ListN.{length};
 ghost use Rattle.paths.specs.Weights.{pair};
 ghost use Rattle.network.specs.NetworkFile.{junctionsOf};
-ghost use Rattle.lists.specs.Cover.{Decides};
+ghost use Rattle.refusals.specs.working.Decides.{Decides};
 ghost use Rattle.forest.specs.LabelFile.{countAt};
 ghost use Rattle.stored.specs.ListForm.{mostBytes, mostFigure};
 ghost use Rattle.stored.specs.Stored.{listAt};
-ghost use Rattle.forest.specs.Fits.{DepthsFilled};
-ghost use Rattle.stored.specs.Formed.{ListFits, Beside};
-ghost use Rattle.hoplinks.specs.Meeting.{HopMarks};
-ghost use Rattle.query.specs.Prepared.{Prepared};
-ghost use Rattle.query.specs.AnswerFrom.{EntryOf};
-ghost use Rattle.routes.specs.Reach.{PathWithin};
-ghost use Rattle.routes.specs.Searched.{HasWithin, ListsUp, SumUp, FittingFrom, CoversAt, NoSum, Asked, Held};
+ghost use Rattle.forest.specs.working.Fits.{DepthsFilled};
+ghost use Rattle.stored.specs.working.Formed.{ListFits, Beside};
+ghost use Rattle.hoplinks.specs.working.Meeting.{HopMarks};
+ghost use Rattle.query.specs.working.Prepared.{Prepared};
+ghost use Rattle.query.specs.working.AnswerFrom.{EntryOf};
+ghost use Rattle.routes.specs.working.Reach.{PathWithin};
+ghost use Rattle.routes.specs.working.Searched.{HasWithin, ListsUp, SumUp, FittingFrom, CoversAt, NoSum, Asked, Held};
 
 fn wide(x: u32) -> usize
     ensures { λ r. ⌜ r ≡ x ⌝ }

@@ -1,7 +1,7 @@
 // The first route of an unbeaten pair, junction by junction: at each junction the first road in file order after which the rest of the pair
 // can still be spent.
 use super::reach::reaches;
-use network::bytes::u32_at;
+use bytes::u32_at;
 use network::roads::next_road;
 use network::roads::other_end;
 use network::roads::road_energy;
@@ -15,12 +15,12 @@ ghost use lib.ListN.{length};
 ghost use Rattle.paths.specs.Weights.{pair};
 ghost use Rattle.paths.specs.TradeOff.{Skyline};
 ghost use Rattle.network.specs.NetworkFile.{junctionsOf, roadsOf, networkOf};
-ghost use Rattle.network.specs.Roads.{touches, Grouped};
-ghost use Rattle.lists.specs.Cover.{Decides};
-ghost use Rattle.query.specs.Prepared.{Prepared};
-ghost use Rattle.routes.specs.Searched.{Held};
-ghost use Rattle.routes.specs.Steps.{StepFits, StepRoad};
-ghost use Rattle.routes.specs.Written.{RouteFound};
+ghost use Rattle.network.specs.working.Roads.{touches, Grouped};
+ghost use Rattle.refusals.specs.working.Decides.{Decides};
+ghost use Rattle.query.specs.working.Prepared.{Prepared};
+ghost use Rattle.routes.specs.working.Searched.{Held};
+ghost use Rattle.routes.specs.working.Steps.{StepFits, StepRoad};
+ghost use Rattle.routes.specs.working.Written.{RouteFound};
 
 // Behind the last junction that a network can have: at first no hoplinks are marked.
 const NONE_HELD: usize = 1024;

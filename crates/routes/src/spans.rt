@@ -13,10 +13,10 @@ ghost use mathlib.Core.Path.{_≡_};
 ghost use Prim.Native.Nat.{_+_, _-_, _≤_, _<_, _^_};
 ghost use lib.ListN.{length};
 ghost use Rattle.forest.specs.LabelFile.{countAt};
-ghost use Rattle.stored.specs.Formed.{ListFits};
-ghost use Rattle.query.specs.Sums.{SumIn, Only, Row, RowFits};
-ghost use Rattle.query.specs.AnswerFrom.{BestFrom};
-ghost use Rattle.routes.specs.Spans.{spanSeconds, EntrySum, SumWithin, NoneBefore, LoweredAt, Lowered, Cleared, Sought, Waiting, NextBelow};
+ghost use Rattle.stored.specs.working.Formed.{ListFits};
+ghost use Rattle.query.specs.working.Sums.{SumIn, Only, Row, RowFits};
+ghost use Rattle.query.specs.working.AnswerFrom.{BestFrom};
+ghost use Rattle.routes.specs.working.Spans.{spanSeconds, EntrySum, SumWithin, NoneBefore, LoweredAt, Lowered, Cleared, Sought, Waiting, NextBelow};
 
 // How many seconds are noted at once.
 const SECONDS: usize = 2048;

@@ -15,7 +15,7 @@ use Rattle.network.specs.Versions.{leastEnergy}
 use Rattle.network.specs.NetworkFile.{versionOf}
 use Rattle.forest.specs.LabelFile.{countAt, timeAt, energyAt}
 use Rattle.stored.specs.ListForm.{mostCount, mostFigure, timeFits, energyFits, entryNumber, listNumber}
-use Rattle.stored.specs.Scanned.{timeCeiling, energyFloor, timeBelow, energyFrom, Inside}
+use Rattle.stored.specs.working.Scanned.{timeCeiling, energyFloor, timeBelow, energyFrom, Inside}
 use Rattle.stored.proofs.Faults.{fault-among, fault-behind}
 use Rattle.stored.proofs.Lists.{EntryFits, entry-fits, fits-entry}
 

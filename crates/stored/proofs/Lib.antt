@@ -6,3 +6,4 @@ pub mod Faults
 pub mod Entries
 pub mod Scan
 pub mod ShortLists
+pub mod Passed

@@ -17,7 +17,7 @@ use Rattle.network.specs.NetworkFile.{versionOf}
 use Rattle.forest.specs.LabelFile.{countAt, timeAt, energyAt, listEnd}
 use Rattle.stored.specs.Stored.{listsOf, placeOf, tabulate, listAt}
 use Rattle.stored.specs.ListForm.{mostCount, mostFigure, timeFollows, energyFollows, timeFits, energyFits, entryNumber, listNumber, listsNumber}
-use Rattle.stored.specs.Formed.{ListFits}
+use Rattle.stored.specs.working.Formed.{ListFits}
 use Rattle.stored.proofs.Tabulate.{Stands, member-stands}
 
 -- ---- Three tests in a row, of which the code makes each that is still asked

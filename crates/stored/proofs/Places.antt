@@ -11,10 +11,11 @@ use lib.ListN.{length, getD}
 use Rattle.network.specs.NetworkFile.{junctionsOf}
 use Rattle.forest.specs.LabelFile.{countAt, listEnd}
 use Rattle.forest.specs.Forest.{depthOf}
-use Rattle.stored.specs.Stored.{listsBefore, listsOf, placeOf, startOf, listPlace, entriesBefore}
-use Rattle.forest.specs.Fits.{DepthsFilled}
-use Rattle.stored.specs.Formed.{ListFits, Formed, StartsFilled}
-use Rattle.stored.specs.Scanned.{further, FoundList}
+use Rattle.stored.specs.Stored.{listsBefore, listsOf, placeOf, listPlace, entriesBefore}
+use Rattle.stored.specs.working.Formed.{startOf}
+use Rattle.forest.specs.working.Fits.{DepthsFilled}
+use Rattle.stored.specs.working.Formed.{ListFits, Formed, StartsFilled}
+use Rattle.stored.specs.working.Scanned.{further, FoundList}
 
 module _ (s : List ℕ) where
   -- ---- Each list stands behind the one before

@@ -12,11 +12,12 @@ use Rattle.refusals.proofs.Order.{faultsFrom, fault-next, fault-here, fault-end
 use Rattle.network.specs.NetworkFile.{junctionsOf}
 use Rattle.forest.specs.LabelFile.{countAt, listEnd}
 use Rattle.forest.specs.Forest.{depthOf}
-use Rattle.stored.specs.Stored.{listsBefore, listsOf, placeOf, startOf, entriesBefore}
+use Rattle.stored.specs.Stored.{listsBefore, listsOf, placeOf, entriesBefore}
+use Rattle.stored.specs.working.Formed.{startOf}
 use Rattle.stored.specs.ListForm.{listNumber, listsNumber}
-use Rattle.forest.specs.Fits.{ParentsFit, DepthsFilled}
-use Rattle.stored.specs.Formed.{StartsFilled}
-use Rattle.stored.specs.Scanned.{further, ScannedSome, PassedSome, Scanned}
+use Rattle.forest.specs.working.Fits.{ParentsFit, DepthsFilled}
+use Rattle.stored.specs.working.Formed.{StartsFilled}
+use Rattle.stored.specs.working.Scanned.{further, ScannedSome, PassedSome, Scanned}
 use Rattle.stored.proofs.Faults.{decided-fault, faults-joined, faults-moved, fault-behind}
 use Rattle.stored.proofs.Lists.{list-fits}
 use Rattle.stored.proofs.Places.{list-takes, further-none, further-next, further-add, further-later, further-place, listsBefore-next, lists-of-junction, place-counts}

@@ -10,8 +10,8 @@ use borrow.Author.Tests.{leb-true, ltb-true, lt-ltb, not-false}
 use Rattle.refusals.proofs.Order.{all-pass}
 use Rattle.forest.specs.LabelFile.{countAt, timeAt, energyAt, listEnd}
 use Rattle.stored.specs.ListForm.{mostFigure, entryNumber, listNumber}
-use Rattle.stored.specs.Scanned.{timeBelow, energyFrom, PassedSome}
-use Rattle.stored.specs.Runs.{Flagged, EnergyFollows, Leading, SingleList, Quick, OneMore}
+use Rattle.stored.specs.working.Scanned.{timeBelow, energyFrom, PassedSome}
+use Rattle.stored.specs.working.Runs.{Flagged, EnergyFollows, Leading, SingleList, Quick, OneMore}
 use Rattle.stored.proofs.Lists.{fits-entry, rules-energy}
 use Rattle.stored.proofs.Entries.{time-tested, energy-tested, list-by-entries}
 use Rattle.stored.proofs.Scan.{passed-none, passed-more}

@@ -1,6 +1,5 @@
--- The stored lists: where each stands, what it is refused by, what passing gives. Read in this order.
+-- The stored lists: where each stands, what it is refused by, when all are right. Read in this order.
 pub mod Stored
 pub mod ListForm
-pub mod Formed
-pub mod Scanned
-pub mod Runs
+pub mod Right
+pub mod working

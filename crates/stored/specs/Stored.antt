@@ -20,10 +20,6 @@ unfoldable pub placeOf : List ℕ → ℕ → ℕ
 placeOf s zero = 16 + 2 * junctionsOf s
 placeOf s (suc g) = listEnd s (placeOf s g)
 
--- The byte where the lists of v start, or would
-abbrev pub startOf : List ℕ → ℕ → ℕ
-startOf s v = placeOf s (listsBefore s v)
-
 -- The byte where the list of v and its proper ancestor u starts
 unfoldable pub listPlace : List ℕ → ℕ → ℕ → ℕ
 listPlace s v u = placeOf s (listsBefore s v + (depthOf s v - depthOf s u - 1))

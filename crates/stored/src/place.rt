@@ -1,16 +1,16 @@
 // A reading place in the label file: it moves from list to list, and each move yields the next place.
-use network::bytes::u16_at;
+use bytes::u16_at;
 ghost use mathlib.Core.Path.{_≡_};
 ghost use Prim.Native.Nat.{_+_, _≤_, _<_};
 ghost use lib.ListN.{length, getD};
-ghost use Rattle.network.specs.Reads.{ReadU16};
+ghost use Rattle.bytes.specs.working.Reads.{ReadU16};
 ghost use Rattle.network.specs.NetworkFile.{junctionsOf};
 ghost use Rattle.forest.specs.LabelFile.{listEnd};
 ghost use Rattle.forest.specs.Forest.{depthOf};
 ghost use Rattle.stored.specs.ListForm.{mostBytes};
-ghost use Rattle.forest.specs.Fits.{DepthsFilled};
-ghost use Rattle.stored.specs.Formed.{Formed, StartsFilled};
-ghost use Rattle.stored.specs.Scanned.{further, FoundList};
+ghost use Rattle.forest.specs.working.Fits.{DepthsFilled};
+ghost use Rattle.stored.specs.working.Formed.{Formed, StartsFilled};
+ghost use Rattle.stored.specs.working.Scanned.{further, FoundList};
 
 // The byte where a list starts.
 pub struct Place {

@@ -5,7 +5,7 @@ use crate::stored::energy_at;
 use crate::stored::energy_fits;
 use crate::stored::time_at;
 use crate::stored::time_fits;
-use network::bytes::u16_at;
+use bytes::u16_at;
 use paths::energy::Energy;
 use paths::seconds::Seconds;
 ghost use mathlib.Core.Path.{_≡_};
@@ -13,8 +13,8 @@ ghost use mathlib.Core.Bool.{true};
 ghost use Prim.Native.Nat.{_+_, _*_, _≤_, _<_};
 ghost use lib.ListN.{length};
 ghost use Rattle.stored.specs.ListForm.{mostBytes, mostCount, entryNumber};
-ghost use Rattle.stored.specs.Scanned.{PassedSome};
-ghost use Rattle.stored.specs.Runs.{Flagged, EnergyFollows, Leading, SingleList, Quick, OneMore};
+ghost use Rattle.stored.specs.working.Scanned.{PassedSome};
+ghost use Rattle.stored.specs.working.Runs.{Flagged, EnergyFollows, Leading, SingleList, Quick, OneMore};
 
 // A count and two entries.
 const SHORT_BYTES: usize = 18;

@@ -2,8 +2,8 @@
 use crate::place::Place;
 use crate::runs::pass_short;
 use crate::runs::pass_single;
-use network::bytes::u16_at;
-use network::bytes::u32_at;
+use bytes::u16_at;
+use bytes::u32_at;
 use paths::energy::Energy;
 use paths::seconds::Seconds;
 ghost use mathlib.Core.Path.{_≡_};
@@ -12,8 +12,8 @@ ghost use lib.ListN.{length};
 ghost use Rattle.refusals.specs.Order.{firstFault};
 ghost use Rattle.forest.specs.LabelFile.{countAt, timeAt, energyAt, listEnd};
 ghost use Rattle.stored.specs.ListForm.{mostBytes, mostCount, entryNumber, listNumber};
-ghost use Rattle.forest.specs.Fits.{ParentsFit, DepthsFilled};
-ghost use Rattle.stored.specs.Scanned.{timeCeiling, timeBelow, energyFrom, Inside, ScannedSome, Scanned, Loaded};
+ghost use Rattle.forest.specs.working.Fits.{ParentsFit, DepthsFilled};
+ghost use Rattle.stored.specs.working.Scanned.{timeCeiling, timeBelow, energyFrom, Inside, ScannedSome, Scanned, Loaded};
 
 const MOST_COUNT: usize = 4095;
 

@@ -4,7 +4,7 @@ use Prim.Native.Nat.{ℕ, _-_}
 use native.Mathlib.Omega.{arith}
 use Rattle.text.specs.Numbers.{zeroByte, spaceByte, IsDigit}
 use Rattle.text.specs.Lines.{newlineByte}
-use Rattle.text.specs.Reading.{KindOf, digit, space, newline, other}
+use Rattle.text.specs.working.Reading.{KindOf, digit, space, newline, other}
 use Rattle.text.specs.declared.read.Kind.{Kind}
 use Rattle.text.specs.declared.read.Kind.the-variants as kind
 

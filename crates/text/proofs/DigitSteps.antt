@@ -6,7 +6,7 @@ use native.Mathlib.Decide.{decLe}
 use native.Mathlib.Omega.{arith}
 use lib.ListN.{length, getD}
 use Rattle.text.specs.Numbers.{zeroByte, valueAfter, IsDigit}
-use Rattle.text.specs.Reading.{mostNumber, Longer, Spelled, DigitsTo, DigitsRead}
+use Rattle.text.specs.working.Reading.{mostNumber, Longer, Spelled, DigitsTo, DigitsRead}
 use Rattle.text.proofs.LineSteps.{between-more}
 use Rattle.text.proofs.LineParts.{line-empty, line-more}
 

@@ -6,7 +6,7 @@ use native.Mathlib.Decide.{ℕ-discrete}
 use native.Mathlib.Omega.{arith}
 use lib.ListN.{length, getD}
 use Rattle.text.specs.Lines.{newlineByte, LineEnds}
-use Rattle.text.specs.Reading.{NoNewline}
+use Rattle.text.specs.working.Reading.{NoNewline}
 
 -- what holds from one place to another, and there, holds one place further
 pub between-more :

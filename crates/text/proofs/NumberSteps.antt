@@ -7,7 +7,7 @@ use native.Mathlib.Omega.{arith}
 use lib.ListN.{length, getD}
 use Rattle.text.specs.Numbers.{zeroByte, IsDigit, IsNumeral}
 use Rattle.text.specs.Lines.{lineOf}
-use Rattle.text.specs.Reading.{mostNumber, DigitRun, DigitsRead, NumberAt, NumberRead, read, bad}
+use Rattle.text.specs.working.Reading.{mostNumber, DigitRun, DigitsRead, NumberAt, NumberRead, read, bad}
 use Rattle.text.specs.declared.read.Number.{Number}
 use Rattle.text.specs.declared.read.Number.the-variants as number
 use Rattle.text.proofs.LineParts.{line-length, line-at}

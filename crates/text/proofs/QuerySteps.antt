@@ -6,8 +6,10 @@ use native.Mathlib.Omega.{arith}
 use lib.ListN.{length}
 use Rattle.text.specs.Numbers.{spaceByte}
 use Rattle.text.specs.Lines.{lineOf}
-use Rattle.text.specs.Queries.{IsQuery, QueryRead, query, bad}
-use Rattle.text.specs.Reading.{NumberAt, SpaceAt, QueryAt}
+use Rattle.text.specs.Queries.{IsQuery}
+use Rattle.text.specs.working.Reading.{query, bad}
+use Rattle.text.specs.working.Reading.{QueryRead}
+use Rattle.text.specs.working.Reading.{NumberAt, SpaceAt, QueryAt}
 use Rattle.text.specs.declared.QueryLine.the-variants as case
 use Rattle.text.proofs.LineParts.{Cut, line-cut, line-split}
 use Rattle.text.proofs.NumberSteps.{number-unique, numeral-at}

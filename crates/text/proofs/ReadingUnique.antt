@@ -5,8 +5,10 @@ use Prim.Native.Nat.{ℕ, _<_}
 use native.Mathlib.Omega.{arith}
 use lib.ListN.{length}
 use Rattle.text.specs.Lines.{LineEnds}
-use Rattle.text.specs.Queries.{IsQuery, QueryRead, query, bad}
-use Rattle.text.specs.Reading.{QueryAt}
+use Rattle.text.specs.Queries.{IsQuery}
+use Rattle.text.specs.working.Reading.{query, bad}
+use Rattle.text.specs.working.Reading.{QueryRead}
+use Rattle.text.specs.working.Reading.{QueryAt}
 use Rattle.text.specs.declared.QueryLine.{QueryLine}
 use Rattle.text.proofs.LineParts.{line-whole}
 use Rattle.text.proofs.NumberSteps.{SameNumber, number-unique}

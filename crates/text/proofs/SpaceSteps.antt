@@ -7,7 +7,7 @@ use native.Mathlib.Omega.{arith}
 use borrow.Author.Tests.{not-true, not-false}
 use lib.ListN.{getD}
 use Rattle.text.specs.Numbers.{spaceByte}
-use Rattle.text.specs.Reading.{SpaceAt, SpaceTold}
+use Rattle.text.specs.working.Reading.{SpaceAt, SpaceTold}
 
 module _ {input : List ℕ} {at end : ℕ} where
   pub space-told : at < end → getD input at 0 ≡ spaceByte → SpaceTold input at end true

@@ -12,8 +12,8 @@ use lib.ListN.{length, getD, take, drop, set, length-set, length-append, length-
 use lib.Seq.{take-suc, take-suc-set, drop-cons, drop-set-lt, getD-set-same, length-take-le, take-length, take-all}
 use borrow.Author.Tests.{lt-ltb, le-ltb}
 use Rattle.text.specs.Numbers.{digitsBefore, numeral}
-use Rattle.text.specs.Writing.{Appended}
-use Rattle.text.specs.Spelling.{Spelled}
+use Rattle.text.specs.working.Writing.{Appended}
+use Rattle.text.specs.working.Spelling.{Spelled}
 
 -- ---- Pieces
 

@@ -2,6 +2,4 @@
 pub mod Numbers
 pub mod Lines
 pub mod Queries
-pub mod Writing
-pub mod Spelling
-pub mod Reading
+pub mod working

@@ -3,8 +3,6 @@ use mathlib.Core.Path.{_≡_}
 use mathlib.Core.List.{List, _∷_, _++_}
 use Prim.Native.Nat.{ℕ}
 use Rattle.text.specs.Numbers.{IsNumeral, spaceByte}
-use Rattle.text.specs.declared.QueryLine.{QueryLine}
-use Rattle.text.specs.declared.QueryLine.the-variants as case
 
 -- A query line: three numbers, "one space between"
 pub record IsQuery (line : List ℕ) (s t C : ℕ) : Type 0 where
@@ -19,8 +17,3 @@ pub record IsQuery (line : List ℕ) (s t C : ℕ) : Type 0 where
 -- "33 query text line badly formed"
 abbrev pub BadLine : List ℕ → Type 0
 BadLine line = (s t C : ℕ) → IsQuery line s t C → ⊥
-
--- What was read of a line: its three numbers, or that it is bad
-pub data QueryRead (line : List ℕ) (r : QueryLine) : Type 0 where
-  query : (s t C : ℕ) → IsQuery line s t C → r ≡ case.Query s t C → QueryRead line r
-  bad : BadLine line → r ≡ case.Bad → QueryRead line r

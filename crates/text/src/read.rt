@@ -4,8 +4,8 @@ ghost use mathlib.Core.Path.{_≡_};
 ghost use Prim.Native.Nat.{_≤_, _<_};
 ghost use lib.ListN.{length};
 ghost use Rattle.text.specs.Lines.{LineEnds, lineOf};
-ghost use Rattle.text.specs.Queries.{QueryRead};
-ghost use Rattle.text.specs.Reading.{KindOf, Longer, DigitsRead, NumberRead, SpaceTold};
+ghost use Rattle.text.specs.working.Reading.{QueryRead};
+ghost use Rattle.text.specs.working.Reading.{KindOf, Longer, DigitsRead, NumberRead, SpaceTold};
 
 // The largest number of a line.
 const MOST: u64 = 4294967295;

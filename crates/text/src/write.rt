@@ -4,8 +4,8 @@ ghost use mathlib.Core.List.{[], _∷_};
 ghost use Prim.Native.Nat.{_+_, _%_, _≤_, _<_};
 ghost use lib.ListN.{length};
 ghost use Rattle.text.specs.Numbers.{numeral};
-ghost use Rattle.text.specs.Writing.{Appended};
-ghost use Rattle.text.specs.Spelling.{Spelled};
+ghost use Rattle.text.specs.working.Writing.{Appended};
+ghost use Rattle.text.specs.working.Spelling.{Spelled};
 
 pub fn put_byte(out: &mut [u8], at: usize, byte: u8) -> usize
     requires { ⌜ at < length (now out) ⌝ }

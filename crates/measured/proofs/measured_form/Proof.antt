@@ -3,7 +3,7 @@ use mathlib.Core.Path.{refl}
 use native.Mathlib.Omega.{arith}
 use borrow.Author.Needs.{needs}
 use Rattle.network.proofs.Accepted.{network-fits}
-use Rattle.measured.specs.FormNumber.{network-refused, network-passed}
+use Rattle.measured.specs.working.FormNumber.{network-refused, network-passed}
 use Rattle.measured.proofs.measured_form.Statement.{statement}
 use Rattle.measured.proofs.measured_form.Tie as tie
 

@@ -7,7 +7,7 @@ use native.Mathlib.Omega.{arith}
 use lib.ListN.{getD, length-set}
 use borrow.Author.Tests.{not-true}
 use Rattle.network.specs.NetworkFile.{junctionsOf}
-use Rattle.exact.specs.Sweep.{SweepInput}
+use Rattle.exact.specs.working.Sweep.{SweepInput}
 use borrow.Author.Needs.{needs}
 use borrow.Author.Tests.{not-false}
 use Rattle.exact.proofs.Sweeping.{swept-on-map, block-end, block-of, noted-places, swept-alone, swept-moved}

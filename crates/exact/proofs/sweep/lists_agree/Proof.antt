@@ -4,7 +4,7 @@ use mathlib.Core.Bool.{false≢true}
 use native.Mathlib.Omega.{arith}
 use borrow.Author.Tests.{not-false}
 use borrow.Author.Needs.{needs}
-use Rattle.agree.specs.Agreeing.{Unmarked}
+use Rattle.agree.specs.working.Agreeing.{Unmarked}
 use Rattle.exact.proofs.Verdicts.{AgreedTo, agreed-none, may-test, agreed-more, agreed-fails, agreed-all}
 use Rattle.exact.proofs.sweep.lists_agree.Statement.{statement}
 use Rattle.exact.proofs.sweep.lists_agree.Tie as tie

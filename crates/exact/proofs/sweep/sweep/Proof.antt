@@ -5,8 +5,8 @@ use borrow.Author.Tests.{not-false}
 use mathlib.Core.Path.{_≡_}
 use Prim.Native.Nat.{ℕ, _+_, _-_, _≤_, _<_}
 use Rattle.network.specs.NetworkFile.{junctionsOf}
-use Rattle.agree.specs.Agreeing.{Unmarked}
-use Rattle.exact.specs.Sweep.{Swept}
+use Rattle.agree.specs.working.Agreeing.{Unmarked}
+use Rattle.exact.specs.working.Sweep.{Swept}
 use Rattle.exact.proofs.Sweeping.{swept-none}
 use Rattle.exact.proofs.Verdicts.{AgreedFrom, from-none, from-more, from-fails, from-all}
 use Rattle.exact.proofs.sweep.sweep.Statement.{statement}

@@ -1,6 +1,6 @@
 -- Each note leaves what is known right.
 use Prim.Native.Nat.{_-_}
-use Rattle.forest.specs.ParentsRead.{FeetRight}
+use Rattle.forest.specs.working.ParentsRead.{FeetRight}
 use borrow.Author.Needs.{needs}
 use Rattle.forest.proofs.feet.note_children.Statement.{statement}
 use Rattle.forest.proofs.feet.note_children.Tie as tie

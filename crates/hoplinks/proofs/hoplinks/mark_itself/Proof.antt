@@ -1,7 +1,7 @@
 -- The loop has cleared every place below k, and stops at `own`, which is marked last.
 use Prim.Native.Nat.{_≤_, _-_}
 use native.Mathlib.Omega.{arith}
-use Rattle.network.specs.RoadsRead.{FilledBelow}
+use Rattle.network.specs.working.RoadsRead.{FilledBelow}
 use Rattle.network.proofs.GroupedRoads.{filled-more}
 use Rattle.hoplinks.proofs.Marks.{one-mark}
 use borrow.Author.Needs.{needs}

@@ -1,7 +1,7 @@
 -- `labels::triples::answer_all` answers triple after triple: each turn is `one-answered`.
 use borrow.Author.Needs.{needs}
 use Prim.Native.Nat.{_≤_, _-_}
-use Rattle.labels.specs.Working.{AnsweredTo, Triples}
+use Rattle.labels.specs.working.Working.{AnsweredTo, Triples}
 use Rattle.labels.proofs.BatchSteps.{none-answered, one-answered, all-answered}
 use native.Mathlib.Omega.{arith}
 use mathlib.Core.Path.{refl}

@@ -2,7 +2,7 @@
 use Prim.Native.Nat.{_≤_, _-_}
 use native.Mathlib.Omega.{arith}
 use borrow.Author.Needs.{needs}
-use Rattle.network.specs.RoadsRead.{FilledBelow}
+use Rattle.network.specs.working.RoadsRead.{FilledBelow}
 use Rattle.network.proofs.GroupedRoads.{filled-more, filled-end}
 use Rattle.network.proofs.roads.clear_heads.Statement.{statement}
 use Rattle.network.proofs.roads.clear_heads.Tie as tie

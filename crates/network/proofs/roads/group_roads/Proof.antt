@@ -3,7 +3,7 @@ use Prim.Native.Nat.{_≤_}
 use native.Mathlib.Omega.{arith}
 use borrow.Author.Needs.{needs}
 use Rattle.network.specs.NetworkFile.{roadsOf}
-use Rattle.network.specs.RoadsRead.{GroupedFrom}
+use Rattle.network.specs.working.RoadsRead.{GroupedFrom}
 use Rattle.network.proofs.GroupedRoads.{grouped-none, road-before, grouped-all}
 use Rattle.network.proofs.roads.group_roads.Statement.{statement}
 use Rattle.network.proofs.roads.group_roads.Tie as tie

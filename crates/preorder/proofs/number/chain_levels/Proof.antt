@@ -3,7 +3,7 @@ use mathlib.Core.Path.{_∙_}
 use Prim.Native.Nat.{_-_, _≤_}
 use native.Mathlib.Omega.{arith}
 use Rattle.network.specs.NetworkFile.{junctionsOf}
-use Rattle.preorder.specs.Levels.{LevelsFrom}
+use Rattle.preorder.specs.working.Levels.{LevelsFrom}
 use Rattle.preorder.proofs.Levels.{depth-inside, levels-more, levels-from-first}
 use borrow.Author.Needs.{needs}
 use Rattle.preorder.proofs.number.chain_levels.Statement.{statement}

@@ -1,7 +1,7 @@
 -- The junctions below v are listed at their spots, and as no two have one spot none is written over.
 use Prim.Native.Nat.{_≤_, _-_}
 use native.Mathlib.Omega.{arith}
-use Rattle.preorder.specs.Blocks.{Listed}
+use Rattle.preorder.specs.working.Blocks.{Listed}
 use Rattle.preorder.proofs.Placing.{listed-more, listed-all}
 use borrow.Author.Needs.{needs}
 use Rattle.preorder.proofs.number.list_order.Statement.{statement}

@@ -3,7 +3,7 @@ use mathlib.Core.Path.{sym}
 use Prim.Native.Nat.{_≤_}
 use native.Mathlib.Omega.{arith}
 use Rattle.network.specs.NetworkFile.{junctionsOf}
-use Rattle.preorder.specs.Blocks.{Merged}
+use Rattle.preorder.specs.working.Blocks.{Merged}
 use Rattle.preorder.proofs.Merging.{merged-as, merged-all}
 use borrow.Author.Needs.{needs}
 use Rattle.preorder.proofs.number.merge_all.Statement.{statement}

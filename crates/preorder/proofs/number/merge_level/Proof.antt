@@ -4,8 +4,8 @@ use Rattle.preorder.proofs.Levels.{stands-first, level-head, level-next
 use Rattle.preorder.proofs.Merging.{merged-as, merged-next, merged-begin, merged-end}
 use Prim.Native.Nat.{_-_}
 use native.Mathlib.Omega.{arith}
-use Rattle.preorder.specs.Levels.{First}
-use Rattle.preorder.specs.Blocks.{Merged}
+use Rattle.preorder.specs.working.Levels.{First}
+use Rattle.preorder.specs.working.Blocks.{Merged}
 use borrow.Author.Needs.{needs}
 use Rattle.preorder.proofs.number.merge_level.Statement.{statement}
 use Rattle.preorder.proofs.number.merge_level.Tie as tie

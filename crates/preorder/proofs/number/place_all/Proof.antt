@@ -2,7 +2,7 @@
 use Prim.Native.Nat.{_-_, _≤_}
 use native.Mathlib.Omega.{arith}
 use Rattle.network.specs.NetworkFile.{junctionsOf}
-use Rattle.preorder.specs.Blocks.{Placed}
+use Rattle.preorder.specs.working.Blocks.{Placed}
 use Rattle.preorder.proofs.Placing.{placed-none, placed-as}
 use borrow.Author.Needs.{needs}
 use Rattle.preorder.proofs.number.place_all.Statement.{statement}

@@ -4,8 +4,8 @@ use Rattle.preorder.proofs.Levels.{stands-first, level-head, level-next
 use Rattle.preorder.proofs.Placing.{placed-as, placed-next, placed-end}
 use Prim.Native.Nat.{_-_}
 use native.Mathlib.Omega.{arith}
-use Rattle.preorder.specs.Levels.{First}
-use Rattle.preorder.specs.Blocks.{Placed}
+use Rattle.preorder.specs.working.Levels.{First}
+use Rattle.preorder.specs.working.Blocks.{Placed}
 use borrow.Author.Needs.{needs}
 use Rattle.preorder.proofs.number.place_level.Statement.{statement}
 use Rattle.preorder.proofs.number.place_level.Tie as tie

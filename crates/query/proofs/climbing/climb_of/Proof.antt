@@ -3,7 +3,7 @@ use mathlib.Core.Path.{_≡_, refl}
 use Prim.Native.Nat.{_-_, _≤_}
 use native.Mathlib.Omega.{arith}
 use Rattle.forest.specs.Forest.{depthOf}
-use Rattle.query.specs.Between.{Climbs}
+use Rattle.query.specs.working.Between.{Climbs}
 use Rattle.query.proofs.ClimbLaws.{climb-starts, climb-inside, climb-more}
 use borrow.Author.Needs.{needs}
 use Rattle.query.proofs.climbing.climb_of.Statement.{statement}

@@ -2,7 +2,7 @@
 use mathlib.Core.Path.{_≡_}
 use Prim.Native.Nat.{suc, _-_}
 use native.Mathlib.Omega.{arith}
-use Rattle.query.specs.Between.{Abreast}
+use Rattle.query.specs.working.Between.{Abreast}
 use Rattle.query.proofs.ClimbLaws.{climb-inside, abreast-ends, abreast-more, abreast-meets}
 use borrow.Author.Needs.{needs}
 use Rattle.query.proofs.climbing.meet.Statement.{statement}

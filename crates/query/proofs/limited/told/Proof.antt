@@ -1,7 +1,7 @@
 -- A time that no path takes tells that nothing was found.
 use mathlib.Core.Path.{refl, sym, _∙_}
 use borrow.Author.Tests.{eqb-true, eqb-false, not-true, not-false}
-use Rattle.query.specs.Sums.{told-found, told-over, told-apart}
+use Rattle.query.specs.working.Sums.{told-found, told-over, told-apart}
 use borrow.Author.Needs.{needs}
 use Rattle.query.proofs.limited.told.Statement.{statement}
 use Rattle.query.proofs.limited.told.Tie as tie

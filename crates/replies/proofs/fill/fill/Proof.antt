@@ -2,7 +2,7 @@
 use native.Mathlib.Omega.{arith}
 use Prim.Native.Nat.{_-_}
 use lib.ListN.{length}
-use Rattle.replies.specs.Working.{Places}
+use Rattle.replies.specs.working.Buffer.{Places}
 use Rattle.replies.proofs.FillSteps.{Filling, filling-start, filling-more, filled-all, filled-full}
 use borrow.Author.Needs.{needs}
 use Rattle.replies.proofs.fill.fill.Statement.{statement}

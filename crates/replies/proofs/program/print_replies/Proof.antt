@@ -3,7 +3,7 @@ use native.Mathlib.Omega.{arith}
 use mathlib.Core.Path.{_≡_}
 use Prim.Native.Nat.{_-_}
 use lib.ListN.{length}
-use Rattle.replies.specs.Working.{Places}
+use Rattle.replies.specs.working.Buffer.{Places}
 use borrow.Author.Needs.{needs}
 use Rattle.replies.proofs.program.print_replies.Statement.{statement}
 use Rattle.replies.proofs.program.print_replies.Tie as tie

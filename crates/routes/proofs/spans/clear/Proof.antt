@@ -1,7 +1,7 @@
 -- Each turn clears one second more.
 use Prim.Native.Nat.{_-_, _≤_}
 use native.Mathlib.Omega.{arith}
-use Rattle.routes.specs.Spans.{Cleared, spanSeconds}
+use Rattle.routes.specs.working.Spans.{Cleared, spanSeconds}
 use borrow.Author.Needs.{needs}
 use Rattle.routes.proofs.SpanLaws.{cleared-more}
 use Rattle.routes.proofs.spans.clear.Statement.{statement}

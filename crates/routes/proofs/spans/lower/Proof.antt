@@ -2,7 +2,7 @@
 use mathlib.Core.Path.{refl, sym, _∙_}
 use native.Mathlib.Omega.{arith}
 use borrow.Author.Tests.{ltb-true, ltb-false}
-use Rattle.routes.specs.Spans.{lowered, kept}
+use Rattle.routes.specs.working.Spans.{lowered, kept}
 use borrow.Author.Needs.{needs}
 use Rattle.routes.proofs.spans.lower.Statement.{statement}
 use Rattle.routes.proofs.spans.lower.Tie as tie

@@ -3,7 +3,7 @@ use mathlib.Core.Path.{_≡_}
 use Prim.Native.Nat.{_≤_, _-_}
 use native.Mathlib.Omega.{arith}
 use borrow.Author.Needs.{needs}
-use Rattle.stored.specs.Scanned.{further}
+use Rattle.stored.specs.working.Scanned.{further}
 use Rattle.stored.proofs.Places.{Moved, moved-none, moved-inside, moved-more, moved-all}
 use Rattle.stored.proofs.place.skip.Statement.{statement}
 use Rattle.stored.proofs.place.skip.Tie as tie

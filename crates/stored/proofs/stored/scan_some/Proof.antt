@@ -1,7 +1,7 @@
 -- The invariant: k lists are passed, none with a fault, and the entries counted make up the bytes passed.
 use Prim.Native.Nat.{_-_}
 use borrow.Author.Needs.{needs}
-use Rattle.stored.specs.Scanned.{PassedSome}
+use Rattle.stored.specs.working.Scanned.{PassedSome}
 use Rattle.stored.proofs.Scan.{passed-none, passed-fault, list-stands, passed-more, passed-all}
 use Rattle.stored.proofs.stored.scan_some.Statement.{statement}
 use Rattle.stored.proofs.stored.scan_some.Tie as tie

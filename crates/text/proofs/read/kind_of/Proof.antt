@@ -2,7 +2,7 @@
 use mathlib.Core.Path.{refl, ap}
 use native.Mathlib.Omega.{arith}
 use borrow.Author.Needs.{needs}
-use Rattle.text.specs.Reading.{digit, space, newline, other}
+use Rattle.text.specs.working.Reading.{digit, space, newline, other}
 use Rattle.text.specs.declared.read.Kind.the-variants as kind
 use Rattle.text.proofs.read.kind_of.Statement.{statement}
 use Rattle.text.proofs.read.kind_of.Tie as tie

@@ -5,7 +5,7 @@ use native.Mathlib.Omega.{arith}
 use types.Run.{miss}
 use borrow.Author.Needs.{needs}
 use lib.ListN.{length}
-use Rattle.text.specs.Reading.{NoNewline}
+use Rattle.text.specs.working.Reading.{NoNewline}
 use Rattle.text.proofs.ByteKinds.{newline-is, no-newline}
 use Rattle.text.proofs.LineSteps.{no-byte-yet, one-byte-more, newline-ends, input-ends}
 use Rattle.text.proofs.read.line_end.Statement.{statement}

@@ -5,7 +5,7 @@ use native.Mathlib.Omega.{arith}
 use types.Run.{miss}
 use borrow.Author.Needs.{needs}
 use lib.ListN.{length}
-use Rattle.text.specs.Reading.{DigitsTo}
+use Rattle.text.specs.working.Reading.{DigitsTo}
 use Rattle.text.proofs.ByteKinds.{digit-is, digit-value, no-digit}
 use Rattle.text.proofs.DigitSteps.{no-digit-yet, one-digit-more, digits-stop}
 use Rattle.text.proofs.read.read_digits.Statement.{statement}

@@ -1,0 +1,2 @@
+-- How large the numbers are.
+pub mod Numbers

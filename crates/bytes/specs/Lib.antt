@@ -1,0 +1,3 @@
+-- Numbers in files.
+pub mod Bytes
+pub mod working

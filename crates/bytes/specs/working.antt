@@ -1,0 +1,2 @@
+-- What the functions that read numbers tell.
+pub mod Reads

@@ -1,0 +1,2 @@
+-- What the sweep over the labels asks and tells.
+pub mod Sweep

@@ -1,0 +1,69 @@
+-- The sweep over the labels. The junctions are taken from the last to the first of an order in which each one's descendants stand
+-- right behind it, so that all of them have been swept before it. A table has one reading place for each junction.
+use mathlib.Core.Path.{_≡_}
+use mathlib.Core.List.{List}
+use Prim.Native.Nat.{ℕ, _+_, _-_, _≤_, _<_}
+use lib.ListN.{length, getD}
+use Rattle.paths.specs.Forest.{Above, Ancestor}
+use Rattle.paths.proofs.LabelTest.{ListAgrees}
+use Rattle.network.specs.NetworkFile.{networkOf, junctionsOf}
+use Rattle.forest.specs.LabelFile.{parentsOf, listEnd}
+use Rattle.forest.specs.Forest.{depthOf}
+use Rattle.stored.specs.Stored.{listsBefore, placeOf, listPlace, stored}
+use Rattle.stored.specs.working.Formed.{Beside, Tables}
+use Rattle.preorder.specs.working.Numbered.{Numbered}
+use Rattle.agree.specs.working.Agreeing.{AgreeInput, PlacesFor}
+
+-- ---- What is tested
+
+-- The list of v for its ancestor u agrees with the lists one road further
+abbrev pub Agrees : List ℕ → List ℕ → ℕ → ℕ → Type 0
+Agrees net s v u = ListAgrees (networkOf net) (parentsOf s) (stored s) v u
+
+-- The lists for u agree, of all junctions below u
+pub record AgreesBelow (net s : List ℕ) (u : ℕ) : Type 0 where
+  pub agrees : {v : ℕ} → Above (parentsOf s) u v → Agrees net s v u
+
+-- ---- The reading places
+
+-- The junctions from spot i on are swept: of each the reading place is behind its lists for those of its ancestors that are swept.
+-- c is the topmost of these, or the junction itself
+pub record Swept (s spots : List ℕ) (i : ℕ) (places : List ℕ) : Type 0 where
+  pub places-length : length places ≡ 1024
+  pub stands :
+      (v c : ℕ) → v < junctionsOf s → Ancestor (parentsOf s) c v → i ≤ getD spots c 0 →
+      ((p : ℕ) → Above (parentsOf s) p c → getD spots p 0 < i) →
+      getD places v 0 ≡ placeOf s (listsBefore s v + (depthOf s v - depthOf s c))
+
+-- The bytes of u's own lists stand at its ancestors, every other reading place is as before
+pub record Noted (s : List ℕ) (u : ℕ) (before after : List ℕ) : Type 0 where
+  pub one-length : length after ≡ 1024
+  pub above : (w : ℕ) → Above (parentsOf s) w u → getD after w 0 ≡ listPlace s u w
+  pub others : (w : ℕ) → (Above (parentsOf s) w u → ⊥) → getD after w 0 ≡ getD before w 0
+
+-- The reading places of the junctions from spot `from` to below `to` have moved on by one list, no other has
+pub record MovedOn (s spots : List ℕ) (from to : ℕ) (before after : List ℕ) : Type 0 where
+  pub one-length : length after ≡ 1024
+  pub moved :
+      (v : ℕ) → v < junctionsOf s → from ≤ getD spots v 0 → getD spots v 0 < to → getD after v 0 ≡ listEnd s (getD before v 0)
+  pub unmoved :
+      (v : ℕ) → v < junctionsOf s → (from ≤ getD spots v 0 → getD spots v 0 < to → ⊥) → getD after v 0 ≡ getD before v 0
+
+-- ---- What the functions of the sweep stand on
+
+-- Both files in form, the tables of the call, and the order of the junctions
+pub record SweepInput (net s depths starts heads nexts spots sizes order : List ℕ) : Type 0 where
+  pub beside : Beside net s
+  pub tables : Tables net s depths starts heads nexts
+  pub numbered : Numbered s spots sizes order
+
+-- The junctions from spot `from` to below `to` are those below u
+pub record BlockOf (s spots order : List ℕ) (u from to : ℕ) : Type 0 where
+  pub order-places : length order ≡ 1024
+  pub on-map : u < junctionsOf s
+  pub inside : to ≤ junctionsOf s
+  pub forward : from ≤ to
+  pub at-spot : (v : ℕ) → v < junctionsOf s → getD order (getD spots v 0) 0 ≡ v
+  pub spot-of : (i : ℕ) → from ≤ i → i < to → getD spots (getD order i 0) 0 ≡ i
+  pub below : (i : ℕ) → from ≤ i → i < to → Above (parentsOf s) u (getD order i 0)
+  pub all : (v : ℕ) → Above (parentsOf s) u v → (from ≤ getD spots v 0) × (getD spots v 0 < to)

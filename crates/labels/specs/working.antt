@@ -1,0 +1,2 @@
+-- What the working functions behind the calls leave.
+pub mod Working

@@ -1,0 +1,23 @@
+-- The number and the values that an answer stands for.
+use Prim.Native.Nat.{ℕ}
+use Rattle.query.specs.declared.Answer.{Answer}
+use Rattle.query.specs.declared.Answer.the-variants as case
+
+-- The number, the time and the energy of an answer: "Every refusal carries zeros beside its number"
+abbrev pub numberOf : Answer → ℕ
+numberOf (case.Found time units) = 0
+numberOf case.OffMap = 21
+numberOf case.NotConnected = 22
+numberOf case.OverLimit = 23
+
+abbrev pub timeOf : Answer → ℕ
+timeOf (case.Found time units) = time .0
+timeOf case.OffMap = 0
+timeOf case.NotConnected = 0
+timeOf case.OverLimit = 0
+
+abbrev pub energyOf : Answer → ℕ
+energyOf (case.Found time units) = units .0
+energyOf case.OffMap = 0
+energyOf case.NotConnected = 0
+energyOf case.OverLimit = 0

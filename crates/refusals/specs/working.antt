@@ -1,0 +1,2 @@
+-- What a test decides.
+pub mod Decides

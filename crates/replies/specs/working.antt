@@ -1,0 +1,2 @@
+-- What the functions behind a reply leave in the buffer.
+pub mod Buffer

@@ -1,0 +1,13 @@
+-- What an accepted label set is (document 01: "Number 18 is given exactly if all before it pass and a list differs from the
+-- definition."; demand 2: "each stored list is the complete trade-off list of its two junctions").
+use mathlib.Core.List.{List}
+use Prim.Native.Nat.{ℕ}
+use Rattle.paths.specs.TradeOff.{IsTradeOff}
+use Rattle.paths.specs.Forest.{Above}
+use Rattle.network.specs.NetworkFile.{networkOf}
+use Rattle.forest.specs.LabelFile.{parentsOf}
+use Rattle.stored.specs.Stored.{stored}
+
+-- Every stored list is the trade-off list of its junction and that junction's proper ancestor
+pub record EveryListRight (net s : List ℕ) : Type 0 where
+  pub right : {v u : ℕ} → Above (parentsOf s) u v → IsTradeOff (networkOf net) v u (stored s v u)

@@ -1,0 +1,2 @@
+-- Laws of the lent table.
+pub mod Stays

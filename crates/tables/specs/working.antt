@@ -1,0 +1,2 @@
+-- One array for what is worked out once per call.
+pub mod Layout
