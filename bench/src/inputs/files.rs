@@ -40,7 +40,12 @@ pub fn all() -> Vec<Files> {
         Files::new(&mut random, "small, n = 100", &small, 40_000),
         Files::new(&mut random, "medium, n = 400", &medium, 600_000),
         Files::new(&mut random, "full, n = 1,024", &full, MOST_BYTES),
-        Files::new(&mut random, "chain, n = 900", &deep, MOST_BYTES),
+        Files::new(
+            &mut random,
+            "drawn counts on a chain, n = 900",
+            &deep,
+            MOST_BYTES,
+        ),
         Files::new(&mut random, "long lists, n = 200", &flat, MOST_BYTES),
     ]
 }
