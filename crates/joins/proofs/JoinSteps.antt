@@ -1,13 +1,14 @@
 -- The two passes of Join over the sums of two lists, one law for each way through a loop.
--- In this order: the join and its entries; counting; filling.
-use mathlib.Core.Path.{_≡_, sym, ap, _∙_}
+-- In this order: the join and its entries; what comes next; counting; filling.
+use mathlib.Core.Path.{_≡_, sym, ap, _∙_, subst}
 use mathlib.Core.List.{List, List·Memᴰ}
 use Prim.Native.Nat.{ℕ, _+_, _-_, _≤_, _<_}
 use native.Mathlib.Omega.{arith}
-use lib.Dec.{lit≤}
 use lib.ListN.{length, getD, set}
 use Rattle.paths.specs.Weights.{energy, pair, spent, Within}
-use Rattle.paths.specs.TradeOff.{IsJoin, Ordered}
+use Rattle.paths.specs.TradeOff.{IsSum, IsJoin, Ordered}
+use Rattle.paths.specs.declared.seconds.Seconds.{Seconds}
+use Rattle.paths.specs.declared.energy.Energy.{Energy}
 use Rattle.paths.proofs.Figures.{number-lawful}
 use Rattle.paths.proofs.Skyline.{join-exists}
 use Rattle.paths.proofs.Unique.{join-unique}
@@ -15,11 +16,15 @@ use Rattle.paths.proofs.OneLimit.{LastWithin, join-ordered}
 use Rattle.refusals.specs.Lent.{filled}
 use Rattle.lists.specs.Entries.{Weight, entries, times, energies}
 use Rattle.lists.specs.working.Lists.{IsList}
-use Rattle.lists.specs.working.Sums.{sumAt, BestPlaces, BestFound}
-use Rattle.lists.specs.declared.Places.{Places}
-use Rattle.lists.specs.declared.Places.the-variants.{Nowhere}
-use Rattle.lists.proofs.Entries.{isList-more, bestPlaces-bestSum, nowhere-noSum, sum-places}
+use Rattle.lists.proofs.Entries.{places-sum, sum-places}
 use Rattle.lists.proofs.JoinBackwards.{below-some, below-none, filled-end, Counting, counting-start, counting-more, counting-none, counting-end, Filling, filling-start, filling-more}
+use Rattle.spans.specs.declared.Span.{Span}
+use Rattle.spans.specs.working.Noting.{spanSeconds}
+use Rattle.spans.specs.working.Waiting.{Waiting, NoSpan, BestBelow}
+use Rattle.spans.proofs.WaitingLaws.{waiting-start}
+use Rattle.joins.specs.declared.noting.Below.the-variants.{Found, Nothing}
+use Rattle.joins.specs.declared.noting.Next.{Next}
+use Rattle.joins.specs.working.Noting.{ListsSum, FoundBelow, BelowIs, NextBelow}
 use Rattle.joins.proofs.JoinLaws.{bestSum-is-last, noSum-none}
 
 -- ---- The join and its entries
@@ -42,14 +47,6 @@ module _ (ts es us fs : List ℕ) where
   joinOf-only j = join-unique number-lawful j joinOf-is
 
 module _ {ts es us fs : List ℕ} (first : IsList 1073741823 ts es) (second : IsList 1073741823 us fs) where
-  -- what the search for the best sum asks, and the sum at the places that it found
-  pub lists-asked : IsList 2147483647 ts es × IsList 2147483647 us fs
-  lists-asked = (isList-more first (lit≤ tt), isList-more second (lit≤ tt))
-
-  pub places-asked :
-      {C i j : ℕ} → BestPlaces ts es us fs C i j → IsList 2147483647 ts es × (IsList 2147483647 us fs × ((i < length ts) × (j < length us)))
-  places-asked best = (isList-more first (lit≤ tt), (isList-more second (lit≤ tt), (best .first-place, best .second-place)))
-
   -- sums of energies stay below the first bound
   small-energy-sum : {i j : ℕ} → i < length ts → j < length us → getD es i 0 + getD fs j 0 < 2147483647
   small-energy-sum {i} {j} h k =
@@ -61,56 +58,93 @@ module _ {ts es us fs : List ℕ} (first : IsList 1073741823 ts es) (second : Is
       let z = sum-places ts es us fs (joinOf-is ts es us fs .real m .sum) in
       omega (arith, small-energy-sum (z .in-first) (z .in-second), ap (spent energy) (z .is))
 
-  -- the best places give the last entry of the join within the limit
-  pub places-last :
-      {C i j t e : ℕ} → BestPlaces ts es us fs C i j → pair t e ≡ sumAt ts es us fs i j → LastWithin (joinOf ts es us fs) C (pair t e)
-  places-last best is =
-      bestSum-is-last (joinOf-is ts es us fs) .0
-      (rw is (bestPlaces-bestSum ts es us fs (first .one-length) (second .one-length) best))
+  -- a sum of entries at two places is a sum of the two lists, and back
+  lists-sum : {p : Weight} → ListsSum ts es us fs p → IsSum energy (entries ts es) (entries us fs) p
+  lists-sum h =
+      subst (IsSum energy (entries ts es) (entries us fs)) (sym (h .adds))
+      (places-sum ts es us fs (first .one-length) (second .one-length) (h .i) (h .j) (h .in-near) (h .in-far))
 
-  -- no places, no entry
-  pub nowhere-none : {C : ℕ} {places : Places} → places ≡ Nowhere → BestFound ts es us fs C places → (q : Weight) → List·Memᴰ q (joinOf ts es us fs) → Within energy C q → ⊥
-  nowhere-none e found = noSum-none number-lawful (joinOf-is ts es us fs) .0 (nowhere-noSum ts es us fs (rw e at found))
+  sum-lists : {p : Weight} → IsSum energy (entries ts es) (entries us fs) p → ListsSum ts es us fs p
+  sum-lists s =
+      let z = sum-places ts es us fs s in
+      record { i = z .first-index; j = z .second-index; in-near = z .in-first; in-far = z .in-second; adds = sym (z .is) }
+
+  -- the best sum below the bound is the last entry of the join there
+  below-last : {bound : ℕ} {p : Weight} → 0 < bound → BestBelow (ListsSum ts es us fs) bound p → LastWithin (joinOf ts es us fs) (bound - 1) p
+  below-last some best =
+      bestSum-is-last (joinOf-is ts es us fs) .0
+      (record {
+        sum = lists-sum (best .among);
+        within = omega (arith, best .below);
+        least = λ q s w. best .least q (sum-lists s) (omega arith);
+      })
+
+  -- no sum, no entry
+  nothing-left :
+      {bound : ℕ} → 0 < bound → ((p : Weight) → ListsSum ts es us fs p → bound ≤ spent energy p) → (q : Weight) →
+      List·Memᴰ q (joinOf ts es us fs) → Within energy (bound - 1) q → ⊥
+  nothing-left some none = noSum-none number-lawful (joinOf-is ts es us fs) .0 (λ q s w. omega (arith, none q (sum-lists s)))
+
+-- ---- What comes next
+
+-- what is told where a sum was found and where none was
+next-found :
+    {Has : Weight → Type 0} {bound : ℕ} {next : Next} {leasts : List ℕ} {takes : Seconds} {units : Energy} → NextBelow Has bound next leasts →
+    next .below ≡ Found takes units → FoundBelow Has bound (pair (takes .0) (units .0)) (next .span) leasts
+next-found {Has} {bound} {next} {leasts} below is = subst (BelowIs Has bound (next .span) leasts) is (below .told)
+
+next-none :
+    {Has : Weight → Type 0} {bound : ℕ} {next : Next} {leasts : List ℕ} → NextBelow Has bound next leasts → next .below ≡ Nothing → (p : Weight) →
+    Has p → bound ≤ spent energy p
+next-none {Has} {bound} {next} {leasts} below is = subst (BelowIs Has bound (next .span) leasts) is (below .told)
 
 -- ---- Counting
 
 -- at the head of the counting loop
-pub record CountingJoin (ts es us fs : List ℕ) (count bound : ℕ) : Type 0 where
+pub record CountingJoin (ts es us fs : List ℕ) (count bound : ℕ) (span : Span) (leasts : List ℕ) : Type 0 where
   pub first : IsList 1073741823 ts es
   pub second : IsList 1073741823 us fs
   pub counting : Counting (joinOf ts es us fs) count bound
   -- so that the count fits 32 bits
   pub both-small : count + bound ≤ 2147483647
+  pub waits : Waiting (ListsSum ts es us fs) bound span leasts
 
 -- before the first turn
-pub count-start : {ts es us fs : List ℕ} → IsList 1073741823 ts es → IsList 1073741823 us fs → CountingJoin ts es us fs 0 2147483647
-count-start first second =
-    record { first = first; second = second; counting = counting-start (join-small first second); both-small = omega arith }
+pub count-start :
+    {ts es us fs : List ℕ} {span : Span} {leasts : List ℕ} → IsList 1073741823 ts es → IsList 1073741823 us fs → NoSpan span →
+    length leasts ≡ spanSeconds → CountingJoin ts es us fs 0 2147483647 span leasts
+count-start first second empty long =
+    record {
+      first = first;
+      second = second;
+      counting = counting-start (join-small first second);
+      both-small = omega arith;
+      waits = waiting-start 2147483647 empty long;
+    }
 
-module _ {ts es us fs : List ℕ} {count bound : ℕ} (now : CountingJoin ts es us fs count bound) where
-  -- a sum was found: the join has one entry more
-  pub count-more :
-      {i j t e : ℕ} → 0 < bound → BestPlaces ts es us fs (bound - 1) i j → pair t e ≡ sumAt ts es us fs i j →
-      CountingJoin ts es us fs (count + 1) e
-  count-more h best is =
-      let last = places-last (now .first) (now .second) best is in
-      record {
-        first = now .first;
-        second = now .second;
-        counting = counting-more (now .counting) (joinOf-ordered ts es us fs) h last;
-        both-small = omega (arith, last .within, now .both-small);
-      }
+module _ {ts es us fs : List ℕ} {count bound : ℕ} {span : Span} {leasts : List ℕ} (now : CountingJoin ts es us fs count bound span leasts) where
+  module _ {next : Next} {lower : List ℕ} (some : 0 < bound) (below : NextBelow (ListsSum ts es us fs) bound next lower) where
+    module _ {takes : Seconds} {units : Energy} (is : next .below ≡ Found takes units) where
+      -- a sum was found: the bound falls
+      pub count-less : units .0 < bound
+      count-less = next-found below is .best .below
 
-  -- the bound falls
-  pub count-less : {i j t e : ℕ} → 0 < bound → BestPlaces ts es us fs (bound - 1) i j → pair t e ≡ sumAt ts es us fs i j → e < bound
-  count-less h best is = omega (arith, places-last (now .first) (now .second) best is .within)
+      -- the join has one entry more
+      pub count-more : CountingJoin ts es us fs (count + 1) (units .0) (next .span) lower
+      count-more =
+          let z = next-found below is in
+          record {
+            first = now .first;
+            second = now .second;
+            counting = counting-more (now .counting) (joinOf-ordered ts es us fs) some (below-last (now .first) (now .second) some (z .best));
+            both-small = omega (arith, count-less, now .both-small);
+            waits = z .waits;
+          }
 
-  -- no sum was found: the join is counted
-  pub count-none :
-      {places : Places} → 0 < bound → places ≡ Nowhere → BestFound ts es us fs (bound - 1) places → (joined : List Weight) →
-      IsJoin energy (entries ts es) (entries us fs) joined → count ≡ length joined
-  count-none h e found joined j =
-      counting-none (now .counting) h (nowhere-none (now .first) (now .second) e found) ∙ ap length (sym (joinOf-only ts es us fs j))
+    -- no sum was found: the join is counted
+    pub count-none : next .below ≡ Nothing → (joined : List Weight) → IsJoin energy (entries ts es) (entries us fs) joined → count ≡ length joined
+    count-none is joined j =
+        counting-none (now .counting) some (nothing-left (now .first) (now .second) some (next-none below is)) ∙ ap length (sym (joinOf-only ts es us fs j))
 
   -- no energy is left: the join is counted
   pub count-end : bound ≤ 0 → (joined : List Weight) → IsJoin energy (entries ts es) (entries us fs) joined → count ≡ length joined
@@ -119,47 +153,56 @@ module _ {ts es us fs : List ℕ} {count bound : ℕ} (now : CountingJoin ts es 
 -- ---- Filling
 
 -- at the head of the filling loop
-pub record FillingJoin (ts es us fs outTimes outEnergies : List ℕ) (bound place : ℕ) (nowTimes nowEnergies : List ℕ) : Type 0 where
+pub record FillingJoin (ts es us fs outTimes outEnergies : List ℕ) (bound place : ℕ) (nowTimes nowEnergies : List ℕ) (span : Span) (leasts : List ℕ) : Type 0 where
   pub first : IsList 1073741823 ts es
   pub second : IsList 1073741823 us fs
   pub filling : Filling (joinOf ts es us fs) outTimes outEnergies bound place nowTimes nowEnergies
+  pub waits : Waiting (ListsSum ts es us fs) bound span leasts
 
 -- before the first turn
 pub fill-start :
-    {ts es us fs outTimes outEnergies : List ℕ} {count : ℕ} → IsList 1073741823 ts es → IsList 1073741823 us fs →
+    {ts es us fs outTimes outEnergies : List ℕ} {count : ℕ} {span : Span} {leasts : List ℕ} → IsList 1073741823 ts es → IsList 1073741823 us fs →
     ((joined : List Weight) → IsJoin energy (entries ts es) (entries us fs) joined → count ≡ length joined) → count ≤ length outTimes →
-    count ≤ length outEnergies → FillingJoin ts es us fs outTimes outEnergies 2147483647 count outTimes outEnergies
-fill-start {ts} {es} {us} {fs} first second counted h k =
+    count ≤ length outEnergies → NoSpan span → length leasts ≡ spanSeconds →
+    FillingJoin ts es us fs outTimes outEnergies 2147483647 count outTimes outEnergies span leasts
+fill-start {ts} {es} {us} {fs} first second counted h k empty long =
     record {
       first = first;
       second = second;
       filling = filling-start (joinOf ts es us fs) (join-small first second) (counted (joinOf ts es us fs) (joinOf-is ts es us fs)) h k;
+      waits = waiting-start 2147483647 empty long;
     }
 
 module _
-    {ts es us fs outTimes outEnergies : List ℕ} {bound place : ℕ} {nowTimes nowEnergies : List ℕ}
-    (now : FillingJoin ts es us fs outTimes outEnergies bound place nowTimes nowEnergies) where
+    {ts es us fs outTimes outEnergies : List ℕ} {bound place : ℕ} {nowTimes nowEnergies : List ℕ} {span : Span} {leasts : List ℕ}
+    (now : FillingJoin ts es us fs outTimes outEnergies bound place nowTimes nowEnergies span leasts) where
   -- an entry is left, so a sum lies below the bound
   pub fill-bound : 0 < place → 0 < bound
   fill-bound h = below-some (now .filling .left) h
 
-  -- a sum was found: it goes to the place before
-  pub fill-more :
-      {i j t e : ℕ} → 0 < bound → BestPlaces ts es us fs (bound - 1) i j → pair t e ≡ sumAt ts es us fs i j →
-      FillingJoin ts es us fs outTimes outEnergies e (place - 1) (set nowTimes (place - 1) t) (set nowEnergies (place - 1) e)
-  fill-more h best is =
-      record {
-        first = now .first;
-        second = now .second;
-        filling =
-            filling-more (joinOf ts es us fs) (now .filling) (joinOf-ordered ts es us fs) h
-            (places-last (now .first) (now .second) best is);
-      }
+  module _ {next : Next} {lower : List ℕ} (some : 0 < place) (below : NextBelow (ListsSum ts es us fs) bound next lower) where
+    -- a sum was found: it goes to the place before
+    pub fill-more :
+        {takes : Seconds} {units : Energy} → next .below ≡ Found takes units →
+        FillingJoin ts es us fs outTimes outEnergies (units .0) (place - 1) (set nowTimes (place - 1) (takes .0)) (set nowEnergies (place - 1) (units .0)) (next .span) lower
+    fill-more is =
+        let z = next-found below is in
+        record {
+          first = now .first;
+          second = now .second;
+          filling =
+              filling-more (joinOf ts es us fs) (now .filling) (joinOf-ordered ts es us fs) (fill-bound some)
+              (below-last (now .first) (now .second) (fill-bound some) (z .best));
+          waits = z .waits;
+        }
 
-  -- so the search does find a sum
-  pub fill-never : {places : Places} → 0 < place → places ≡ Nowhere → BestFound ts es us fs (bound - 1) places → ⊥
-  fill-never h e found =
-      omega (arith, below-none (now .filling .left) (fill-bound h) (nowhere-none (now .first) (now .second) e found))
+    -- so one is always found
+    pub fill-never : next .below ≡ Nothing → ⊥
+    fill-never is =
+        omega (
+          arith,
+          below-none (now .filling .left) (fill-bound some) (nothing-left (now .first) (now .second) (fill-bound some) (next-none below is)),
+        )
 
   -- no place is left: the slices hold the join
   pub fill-times :

@@ -4,5 +4,6 @@ pub mod Rules
 pub mod SumAnswers
 pub mod LimitedUnique
 pub mod JoinLaws
+pub mod NotingLaws
 pub mod JoinSteps
 pub mod JoinAnswers

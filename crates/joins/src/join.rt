@@ -1,11 +1,13 @@
 // Join: the unbeaten sums of two lists, written to two lent slices. Nothing is written before the room is known, so the sums are gone
 // through twice, each time from the fast end: the best sum below a bound, then the best below that one's energy, and so on.
+// Where entries stand close, each sum is touched at most once, and each 2,048 seconds cost two walks of both lists; where they stand
+// further apart, each entry costs one walk.
 use crate::JoinAnswer;
 use crate::form::join_number;
-use lists::Places;
-use lists::sums::best_sum;
-use lists::sums::sum_at;
+use crate::noting::Below;
+use crate::noting::next_below;
 use paths::energy::Energy;
+use spans::no_span;
 ghost use mathlib.Core.Path.{_≡_};
 ghost use mathlib.Core.List.{List};
 ghost use Prim.Native.Nat.{_≤_};
@@ -15,15 +17,23 @@ ghost use Rattle.paths.specs.TradeOff.{IsJoin};
 ghost use Rattle.refusals.specs.Lent.{filled};
 ghost use Rattle.lists.specs.Entries.{Weight, entries, times as timesOf, energies as energiesOf};
 ghost use Rattle.lists.specs.working.Lists.{IsList};
+ghost use Rattle.spans.specs.working.Noting.{spanSeconds};
 ghost use Rattle.joins.specs.Answers.{Join, joinNumberOf, joinCountOf};
 
 // More than the energy of any sum.
 const ABOVE_ALL: u32 = 2147483647;
 
 // How many entries the join has.
-fn join_count(times: &[u32], energies: &[u32], more_times: &[u32], more_energies: &[u32]) -> u32
+fn join_count(
+    times: &[u32],
+    energies: &[u32],
+    more_times: &[u32],
+    more_energies: &[u32],
+    leasts: &mut [u32; 2048],
+) -> u32
     requires { ⌜ IsList 1073741823 (now times) (now energies) ⌝ }
     requires { ⌜ IsList 1073741823 (now «more_times») (now «more_energies») ⌝ }
+    requires { ⌜ length (now leasts) ≡ spanSeconds ⌝ }
     ensures { λ r.
         ⌜
         ((joined : List Weight) →
@@ -32,19 +42,29 @@ fn join_count(times: &[u32], energies: &[u32], more_times: &[u32], more_energies
         joined →
         r ≡ length joined)
         ⌝ }
+    ensures { λ _. ⌜ length (now (leasts .exit)) ≡ spanSeconds ⌝ }
 {
+    let mut span = no_span();
     let mut count: u32 = 0;
     let mut bound: u32 = ABOVE_ALL;
     while bound > 0 {
-        let limit = Energy(bound - 1);
-        match best_sum(times, energies, more_times, more_energies, limit) {
-            Places::At(i, j) => {
-                let sum = sum_at(times, energies, more_times, more_energies, i, j);
-                count += 1;
-                bound = sum.units.0;
-            }
-            Places::Nowhere => return count,
-        }
+        let next = next_below(
+            times,
+            energies,
+            more_times,
+            more_energies,
+            Energy(bound),
+            span,
+            leasts,
+        );
+        let below = next.below;
+        let Below::Found(_, units) = below else {
+            return count;
+        };
+        count += 1;
+        bound = units.0;
+        let after = next.span;
+        span = after;
     }
     count
 }
@@ -58,6 +78,7 @@ fn join_fill(
     count: u32,
     out_times: &mut [u32],
     out_energies: &mut [u32],
+    leasts: &mut [u32; 2048],
 )
     requires { ⌜ IsList 1073741823 (now times) (now energies) ⌝ }
     requires { ⌜ IsList 1073741823 (now «more_times») (now «more_energies») ⌝ }
@@ -68,6 +89,7 @@ fn join_fill(
         ⌝ }
     requires { ⌜ count ≤ length (now «out_times») ⌝ }
     requires { ⌜ count ≤ length (now «out_energies») ⌝ }
+    requires { ⌜ length (now leasts) ≡ spanSeconds ⌝ }
     ensures { λ r.
         ⌜
         ((joined : List Weight) →
@@ -85,20 +107,29 @@ fn join_fill(
         now («out_energies» .exit) ≡ filled (now («out_energies» .entry)) (energiesOf joined))
         ⌝ }
 {
+    let mut span = no_span();
     let mut place = count as usize;
     let mut below: u32 = ABOVE_ALL;
     while place > 0 {
-        let limit = Energy(below - 1);
-        match best_sum(times, energies, more_times, more_energies, limit) {
-            Places::At(i, j) => {
-                let sum = sum_at(times, energies, more_times, more_energies, i, j);
-                place -= 1;
-                out_times[place] = sum.time.0;
-                out_energies[place] = sum.units.0;
-                below = sum.units.0;
-            }
-            Places::Nowhere => return,
-        }
+        let next = next_below(
+            times,
+            energies,
+            more_times,
+            more_energies,
+            Energy(below),
+            span,
+            leasts,
+        );
+        let found = next.below;
+        let Below::Found(time, units) = found else {
+            return;
+        };
+        place -= 1;
+        out_times[place] = time.0;
+        out_energies[place] = units.0;
+        below = units.0;
+        let after = next.span;
+        span = after;
     }
 }
 
@@ -122,6 +153,8 @@ pub fn join(
         (now («out_energies» .exit))
         ⌝ }
 {
+    // Made and used first of all, so that the compiler makes the frame at the start.
+    let mut leasts: [u32; 2048] = [0; 2048];
     let number = join_number(times, energies, more_times, more_energies);
     if number == 41 {
         return JoinAnswer::LengthsDiffer;
@@ -129,7 +162,7 @@ pub fn join(
     if number == 42 {
         return JoinAnswer::IllFormed;
     }
-    let count = join_count(times, energies, more_times, more_energies);
+    let count = join_count(times, energies, more_times, more_energies, &mut leasts);
     let room = count as usize;
     if out_times.len() < room {
         return JoinAnswer::NoRoom;
@@ -145,6 +178,7 @@ pub fn join(
         count,
         out_times,
         out_energies,
+        &mut leasts,
     );
     JoinAnswer::Joined(count)
 }

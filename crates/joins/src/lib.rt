@@ -21,3 +21,4 @@ pub enum SumAnswer {
 pub mod form;
 pub mod join;
 pub mod limited;
+pub mod noting;

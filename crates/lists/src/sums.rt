@@ -63,7 +63,7 @@ fn comes_before(candidate: Sum, best: Sum) -> bool
 }
 
 // Down from `from`, past the entries of the second list that do not fit beside `units` within the limit.
-fn fitting(more_energies: &[u32], units: Energy, limit: Energy, from: usize) -> usize
+pub fn fitting(more_energies: &[u32], units: Energy, limit: Energy, from: usize) -> usize
     requires { ⌜ from ≤ length (now «more_energies») ⌝ }
     requires { ⌜ ((k : ℕ) → k < from → units .0 + getD (now «more_energies») k 0 < 2 ^ 32) ⌝ }
     ensures { λ r. ⌜ r ≤ from ⌝ }

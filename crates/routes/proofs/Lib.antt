@@ -4,5 +4,5 @@ pub mod Searching
 pub mod Reaching
 pub mod RouteSteps
 pub mod RouteWay
-pub mod SpanLaws
+pub mod NotingLaws
 pub mod ListSteps

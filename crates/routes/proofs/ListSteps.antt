@@ -23,6 +23,10 @@ use Rattle.refusals.specs.Lent.{filled}
 use Rattle.refusals.proofs.Lent.{filled-none}
 use Rattle.lists.specs.Entries.{Weight, times, energies}
 use Rattle.lists.proofs.JoinBackwards.{below-some, below-none, filled-end, Counting, counting-start, counting-more, counting-none, counting-end, Filling, filling-start, filling-more}
+use Rattle.spans.specs.declared.Span.{Span}
+use Rattle.spans.specs.working.Noting.{spanSeconds}
+use Rattle.spans.specs.working.Waiting.{Waiting, NoSpan}
+use Rattle.spans.proofs.WaitingLaws.{waiting-start}
 use Rattle.network.specs.NetworkFile.{junctionsOf, networkOf}
 use Rattle.network.proofs.Arcs.{network-finite}
 use Rattle.forest.specs.LabelFile.{parentsOf, countAt, timeAt, energyAt}
@@ -37,12 +41,11 @@ use Rattle.query.specs.Answers.{Answers, off-map, not-connected, over-limit, fo
 use Rattle.query.specs.working.Between.{ListBetween, ListsBetween}
 use Rattle.query.specs.working.Sums.{SumIn, Row}
 use Rattle.query.proofs.WholeAnswers.{StandsFor, row-fits, row-stands, list-between-right, answer-lists}
-use Rattle.routes.specs.declared.spans.Span.{Span}
-use Rattle.routes.specs.declared.spans.Next.{Next}
-use Rattle.routes.specs.working.Spans.{spanSeconds, Waiting, NoSpan, NextBelow}
+use Rattle.routes.specs.declared.noting.Next.{Next}
+use Rattle.routes.specs.working.Noting.{NextBelow}
 use Rattle.routes.specs.working.Written.{ListWritten}
 use Rattle.routes.proofs.RouteWay.{alone-spends-none}
-use Rattle.routes.proofs.SpanLaws.{row-small, waiting-start}
+use Rattle.routes.proofs.NotingLaws.{row-small}
 
 -- ---- One list only
 

@@ -3,5 +3,5 @@ pub mod Reach
 pub mod Searched
 pub mod Climbing
 pub mod Steps
-pub mod Spans
+pub mod Noting
 pub mod Written

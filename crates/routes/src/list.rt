@@ -1,13 +1,12 @@
 // The whole trade-off list of two junctions. Where one stands above the other it is the stored one; where two branches meet it is
 // made from its last entry to its first: the best sum below a bound, then the best below that one's energy, and so on. It is counted
 // first, so that nothing is written before the room is known.
-use crate::spans::Span;
-use crate::spans::next_below;
+use crate::noting::next_below;
 use paths::energy::Energy;
-use paths::seconds::Seconds;
 use query::Answer;
 use query::Between;
 use query::climbing::between;
+use spans::no_span;
 use stored::place::Place;
 use stored::stored::load;
 ghost use mathlib.Core.Path.{_≡_};
@@ -16,25 +15,14 @@ ghost use Prim.Native.Nat.{_≤_, _<_};
 ghost use lib.ListN.{length};
 ghost use Rattle.paths.specs.TradeOff.{IsTradeOff};
 ghost use Rattle.lists.specs.Entries.{Weight};
+ghost use Rattle.spans.specs.working.Noting.{spanSeconds};
 ghost use Rattle.network.specs.NetworkFile.{junctionsOf, networkOf};
 ghost use Rattle.query.specs.working.Prepared.{Prepared};
 ghost use Rattle.query.specs.working.Between.{ListsBetween};
-ghost use Rattle.routes.specs.working.Spans.{spanSeconds, NoSpan};
 ghost use Rattle.routes.specs.working.Written.{ListWritten};
 
 // More than the energy of any entry.
 const ABOVE_ALL: u32 = 2147483647;
-
-// Before the first entry nothing is noted.
-fn no_span() -> Span
-    ensures { λ r. ⌜ NoSpan r ⌝ }
-{
-    Span {
-        first: Seconds(0),
-        noted: 0,
-        passed: 0,
-    }
-}
 
 // How many entries the list of x and y has where their lists for common ancestors stand from two bytes on.
 fn count_joined(

@@ -1,67 +1,35 @@
 -- As many entries of the join lie below the bound as places are left, and the best sum there is the last of them, which goes to the last
 -- of those places.
 use native.Mathlib.Omega.{arith}
+use Rattle.joins.proofs.JoinSteps.{FillingJoin, fill-start, fill-bound, fill-more, fill-never, fill-times, fill-energies}
 use borrow.Author.Needs.{needs}
-use Rattle.lists.proofs.Entries.{places-at}
-use Rattle.joins.proofs.JoinSteps.{lists-asked, places-asked, FillingJoin, fill-start, fill-bound, fill-more, fill-never, fill-times, fill-energies}
 use Rattle.joins.proofs.join.join_fill.Statement.{statement}
 use Rattle.joins.proofs.join.join_fill.Tie as tie
 
 abbrev Inv-loop : tie.InvT-loop
-Inv-loop times energies more-times more-energies count out-times₀ out-energies₀ place₀ below₀ out-times out-energies place below =
-    FillingJoin times energies more-times more-energies out-times₀ out-energies₀ below place out-times out-energies
+Inv-loop times energies more-times more-energies count out-times₀ out-energies₀ leasts₀ span₀ place₀ below₀ out-times out-energies leasts span place below =
+    FillingJoin times energies more-times more-energies out-times₀ out-energies₀ below place out-times out-energies span leasts
 
 abbrev μ-loop : tie.MeasureT-loop
-μ-loop times energies more-times more-energies count out-times₀ out-energies₀ place₀ below₀ out-times out-energies place below =
+μ-loop times energies more-times more-energies count out-times₀ out-energies₀ leasts₀ span₀ place₀ below₀ out-times out-energies leasts span place below =
     place
+
+no-span-requires : tie.Need-no-span-requires Inv-loop μ-loop
+no-span-requires c κs = search needs
 
 loop-holds : tie.Need-loop-holds Inv-loop μ-loop
 loop-holds c =
-    let s = c .before .before .before .before .before .before in
-    fill-start (s .pre .0) (s .pre .1 .0) (s .pre .1 .1 .0) (s .pre .1 .1 .1 .0) (s .pre .1 .1 .1 .1)
+    let pre = c .before .before .before .before .before .before .before .pre in
+    fill-start (pre .0) (pre .1 .0) (pre .1 .1 .0) (pre .1 .1 .1 .0) (pre .1 .1 .1 .1 .0) (c .no-span .ensures) (pre .1 .1 .1 .1 .1)
 
-sub-t15 : tie.Need-sub-t15 Inv-loop μ-loop
-sub-t15 c = omega (arith, fill-bound (c .before .loop .inv) (c .loop-test .taken))
+next-below-requires : tie.Need-next-below-requires Inv-loop μ-loop
+next-below-requires c κs =
+    let turn = c .before in
+    let now = turn .before .loop .inv in
+    (now .first, (now .second, (fill-bound now (turn .loop-test .taken), now .waits)))
 
-best-sum-requires : tie.Need-best-sum-requires Inv-loop μ-loop
-best-sum-requires c κs = let now = c .before .loop .inv in lists-asked (now .first) (now .second)
-
-enum-known-i : tie.Need-enum-known-i Inv-loop μ-loop
-enum-known-i c = search needs
-
-sum-at-requires : tie.Need-sum-at-requires Inv-loop μ-loop
-sum-at-requires c κs =
-    let now = c .before .before .before .before .before .loop .inv in
-    places-asked (now .first) (now .second) (places-at _ _ _ _ (c .before .i .given .1) (c .before .before .before .best-sum .ensures))
-
-sub-place : tie.Need-sub-place Inv-loop μ-loop
-sub-place c = search needs
-
-mul-out-times : tie.Need-mul-out-times Inv-loop μ-loop
-mul-out-times c =
-    let head = c .before .before .before .before .before .before in
-    omega (arith, head .before .before .before .before .before .before .before .good, head .loop .inv)
-
-slice-write-out-times : tie.Need-slice-write-out-times Inv-loop μ-loop
-slice-write-out-times c = search needs
-
-mul-out-energies : tie.Need-mul-out-energies Inv-loop μ-loop
-mul-out-energies c =
-    let head = c .before .before .before .before .before .before in
-    omega (arith, head .before .before .before .before .before .before .before .good, head .loop .inv)
-
-slice-write-out-energies : tie.Need-slice-write-out-energies Inv-loop μ-loop
-slice-write-out-energies c = search needs
-
-loop-less : tie.Need-loop-less Inv-loop μ-loop
-loop-less c = search needs
-
-loop-again : tie.Need-loop-again Inv-loop μ-loop
-loop-again c =
-    let best = places-at _ _ _ _ (c .before .before .i .given .1) (c .before .before .before .before .best-sum .ensures) in
-    let head = c .before .before .before .before .before in
-    let now = head .before .loop .inv in
-    fill-more now (fill-bound now (head .loop-test .taken)) best (c .sum-at .ensures .1 .1)
+enum-known-found : tie.Need-enum-known-found Inv-loop μ-loop
+enum-known-found c = search needs
 
 enum-told : tie.Need-enum-told Inv-loop μ-loop
 enum-told c = search needs
@@ -74,8 +42,38 @@ same-length-2 c = search needs
 
 returns : tie.Need-returns Inv-loop μ-loop
 returns c =
-    let head = c .before .before .before in
-    absurd (fill-never (head .before .loop .inv) (head .loop-test .taken) (c .enum-told .given .1) (c .before .before .best-sum .ensures))
+    let next = c .before .before in
+    let turn = next .before .before in
+    absurd (fill-never (turn .before .loop .inv) (turn .loop-test .taken) (next .next-below .ensures) (c .enum-told .given .1))
+
+sub-place : tie.Need-sub-place Inv-loop μ-loop
+sub-place c = search needs
+
+mul-out-times : tie.Need-mul-out-times Inv-loop μ-loop
+mul-out-times c =
+    let loop = c .before .before .before .before .before .before in
+    omega (arith, loop .before .before .before .before .before .before .before .before .good, loop .loop .inv)
+
+slice-write-out-times : tie.Need-slice-write-out-times Inv-loop μ-loop
+slice-write-out-times c = search needs
+
+mul-out-energies : tie.Need-mul-out-energies Inv-loop μ-loop
+mul-out-energies c =
+    let loop = c .before .before .before .before .before .before in
+    omega (arith, loop .before .before .before .before .before .before .before .before .good, loop .loop .inv)
+
+slice-write-out-energies : tie.Need-slice-write-out-energies Inv-loop μ-loop
+slice-write-out-energies c = search needs
+
+loop-less : tie.Need-loop-less Inv-loop μ-loop
+loop-less c = search needs
+
+loop-again : tie.Need-loop-again Inv-loop μ-loop
+loop-again c =
+    let known = c .before .before in
+    let next = known .before .before in
+    let turn = next .before .before in
+    fill-more (turn .before .loop .inv) (turn .loop-test .taken) (next .next-below .ensures) (known .found .given .1)
 
 same-length-3 : tie.Need-same-length-3 Inv-loop μ-loop
 same-length-3 c = search needs
@@ -93,11 +91,14 @@ join-fill-spec =
     (tie.spec
     Inv-loop
     μ-loop
+    no-span-requires
     loop-holds
-    sub-t15
-    best-sum-requires
-    enum-known-i
-    sum-at-requires
+    next-below-requires
+    enum-known-found
+    enum-told
+    same-length
+    same-length-2
+    returns
     sub-place
     mul-out-times
     slice-write-out-times
@@ -105,10 +106,6 @@ join-fill-spec =
     slice-write-out-energies
     loop-less
     loop-again
-    enum-told
-    same-length
-    same-length-2
-    returns
     same-length-3
     same-length-4
     returns-2)

@@ -1,7 +1,7 @@
 -- Each best answer below the bound is the last entry of the list there, so the entries are counted one by one, from the last to the first.
 use native.Mathlib.Omega.{arith}
 use Rattle.query.proofs.WholeAnswers.{row-fits}
-use Rattle.routes.proofs.SpanLaws.{refused, found-key}
+use Rattle.routes.proofs.NotingLaws.{refused, found-key}
 use Rattle.routes.proofs.ListSteps.{CountingList, count-start, count-more, count-less, count-none, count-end}
 use borrow.Author.Needs.{needs}
 use Rattle.routes.proofs.list.count_joined.Statement.{statement}

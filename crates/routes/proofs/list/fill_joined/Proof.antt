@@ -2,7 +2,7 @@
 -- of those places.
 use native.Mathlib.Omega.{arith}
 use Rattle.query.proofs.WholeAnswers.{row-fits}
-use Rattle.routes.proofs.SpanLaws.{refused, found-key}
+use Rattle.routes.proofs.NotingLaws.{refused, found-key}
 use Rattle.routes.proofs.ListSteps.{FillingList, fill-start, fill-bound, fill-more, fill-never, fill-end}
 use borrow.Author.Needs.{needs}
 use Rattle.routes.proofs.list.fill_joined.Statement.{statement}
