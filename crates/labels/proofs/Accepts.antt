@@ -5,7 +5,7 @@ use mathlib.Core.List.{List}
 use Prim.Native.Nat.{ℕ}
 use lib.ListN.{length}
 use Rattle.refusals.specs.working.Decides.{Decides}
-use Rattle.network.specs.NetworkFile.{netNumber}
+use Rattle.network.specs.NetworkNumber.{netNumber}
 use Rattle.network.specs.working.Fits.{NetworkFits}
 use Rattle.network.specs.working.Roads.{Grouped}
 use Rattle.network.proofs.Accepted.{network-fits}

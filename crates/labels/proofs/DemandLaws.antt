@@ -19,7 +19,8 @@ use Rattle.paths.proofs.Answers.{Outcome, outcome}
 use Rattle.paths.proofs.Route.{firstRoute-unique}
 use Rattle.refusals.specs.Lent.{filled}
 use Rattle.lists.specs.Entries.{times, energies}
-use Rattle.network.specs.NetworkFile.{netNumber, networkOf, junctionsOf}
+use Rattle.network.specs.NetworkFile.{networkOf, junctionsOf}
+use Rattle.network.specs.NetworkNumber.{netNumber}
 use Rattle.network.proofs.Arcs.{network-finite}
 use Rattle.network.proofs.Accepted.{network-fits}
 use Rattle.files.specs.LabelForm.{formBeside}

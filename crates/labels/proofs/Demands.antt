@@ -13,7 +13,8 @@ use Rattle.paths.specs.Cut.{IsCut}
 use Rattle.refusals.specs.Lent.{filled}
 use Rattle.lists.specs.Entries.{times, energies}
 use Rattle.joins.specs.Answers.{Join, LimitedJoin}
-use Rattle.network.specs.NetworkFile.{netNumber, networkOf, junctionsOf}
+use Rattle.network.specs.NetworkFile.{networkOf, junctionsOf}
+use Rattle.network.specs.NetworkNumber.{netNumber}
 use Rattle.files.specs.LabelForm.{formBeside}
 use Rattle.files.specs.Shown.{Shows, Shown}
 use Rattle.query.specs.Answers.{Answers}

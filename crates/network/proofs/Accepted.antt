@@ -20,36 +20,32 @@ use Rattle.network.specs.NetworkFile.{
   roadHigh,
   roadTime,
   roadEnergy,
-  recordRises,
-  recordNumber,
-  sizesFit,
-  netNumber,
 }
-use Rattle.network.specs.NetworkTests.{headerNumber}
+use Rattle.network.specs.NetworkNumber.{recordRises, endsFit, figuresFit, recordNumber, sizesFit, headerNumber, netNumber}
 use Rattle.network.specs.working.Fits.{NetworkFits}
-use Rattle.network.proofs.NetworkTests.{header-then-records, header-fits}
+use Rattle.network.proofs.NetworkTests.{header-fits}
 
 -- ---- A record
 
 -- What a record that passed says
-pub record RecordFits (s : List ℕ) (k : ℕ) : Type 0 where
-  pub low-below-high : roadLow s k < roadHigh s k
-  pub high-on-map : roadHigh s k < junctionsOf s
-  pub rises : recordRises s k ≡ true
-  pub takes-time : 1 ≤ roadTime s k
-  pub takes-energy : leastEnergy (versionOf s) ≤ roadEnergy s k
+pub record RecordFits (net : List ℕ) (k : ℕ) : Type 0 where
+  pub low-below-high : roadLow net k < roadHigh net k
+  pub high-on-map : roadHigh net k < junctionsOf net
+  pub rises : recordRises net k ≡ true
+  pub takes-time : 1 ≤ roadTime net k
+  pub takes-energy : leastEnergy (versionOf net) ≤ roadEnergy net k
 
 -- a record's number 0 says so
-record-fits : (s : List ℕ) (k : ℕ) → recordNumber s k ≡ 0 → RecordFits s k
-unfolding recordNumber
-record-fits s k passes =
-    let low = ltb (roadLow s k) (roadHigh s k) in
-    let high = ltb (roadHigh s k) (junctionsOf s) in
-    let some-time = leb 1 (roadTime s k) in
-    let some-energy = leb (leastEnergy (versionOf s)) (roadEnergy s k) in
-    let ends = unless-passed {test = low && high && recordRises s k} (λ e. omega arith) passes in
+record-fits : (net : List ℕ) (k : ℕ) → recordNumber net k ≡ 0 → RecordFits net k
+unfolding recordNumber endsFit figuresFit
+record-fits net k passes =
+    let low = ltb (roadLow net k) (roadHigh net k) in
+    let high = ltb (roadHigh net k) (junctionsOf net) in
+    let some-time = leb 1 (roadTime net k) in
+    let some-energy = leb (leastEnergy (versionOf net)) (roadEnergy net k) in
+    let ends = unless-passed {test = low && high && recordRises net k} (λ e. omega arith) passes in
     let figures = and-both some-time some-energy (unless-passed {test = some-time && some-energy} (λ e. omega arith) (ends .1) .0) in
-    let rises = and-both (low && high) (recordRises s k) (ends .0) in
+    let rises = and-both (low && high) (recordRises net k) (ends .0) in
     let on-map = and-both low high (rises .0) in
     record {
       low-below-high = ltb-true _ _ (on-map .0);
@@ -60,15 +56,15 @@ record-fits s k passes =
     }
 
 -- and back
-record-back : (s : List ℕ) (k : ℕ) → RecordFits s k → recordNumber s k ≡ 0
-unfolding recordNumber
-record-back s k fits =
+record-back : (net : List ℕ) (k : ℕ) → RecordFits net k → recordNumber net k ≡ 0
+unfolding recordNumber endsFit figuresFit
+record-back net k fits =
     rw (
-      lt-ltb (roadLow s k) (roadHigh s k) (fits .low-below-high),
-      lt-ltb (roadHigh s k) (junctionsOf s) (fits .high-on-map),
+      lt-ltb (roadLow net k) (roadHigh net k) (fits .low-below-high),
+      lt-ltb (roadHigh net k) (junctionsOf net) (fits .high-on-map),
       fits .rises,
-      le-leb 1 (roadTime s k) (fits .takes-time),
-      le-leb (leastEnergy (versionOf s)) (roadEnergy s k) (fits .takes-energy),
+      le-leb 1 (roadTime net k) (fits .takes-time),
+      le-leb (leastEnergy (versionOf net)) (roadEnergy net k) (fits .takes-energy),
     )
 
 -- ---- The whole file
@@ -79,11 +75,12 @@ decided-none zero then e = (refl, e)
 decided-none (suc first) then e = absurd (omega arith)
 
 -- an accepted network fits
-pub network-fits : (s : List ℕ) → netNumber s ≡ 0 → NetworkFits s
-network-fits s passes =
-    let parts = decided-none (headerNumber s) _ (sym (header-then-records s) ∙ passes) in
-    let header = header-fits s (parts .0) in
-    let each : (k : ℕ) → k < roadsOf s → RecordFits s k = λ k h. record-fits s k (no-fault (recordNumber s) (roadsOf s) (parts .1) (omega arith) (omega arith)) in
+pub network-fits : (net : List ℕ) → netNumber net ≡ 0 → NetworkFits net
+unfolding netNumber
+network-fits net passes =
+    let parts = decided-none (headerNumber net) _ (passes) in
+    let header = header-fits net (parts .0) in
+    let each : (k : ℕ) → k < roadsOf net → RecordFits net k = λ k h. record-fits net k (no-fault (recordNumber net) (roadsOf net) (parts .1) (omega arith) (omega arith)) in
     record {
       some-junction = header .some-junction;
       few-junctions = header .few-junctions;
@@ -97,19 +94,19 @@ network-fits s passes =
     }
 
 -- and back: what is marked, of a version that is served, and fits, has number 0
-pub fits-passes : (s : List ℕ) → marked 84 82 78 s ≡ true → netServed (versionOf s) ≡ true → NetworkFits s → netNumber s ≡ 0
-unfolding netNumber sizesFit
-fits-passes s mark version fits =
+pub fits-passes : (net : List ℕ) → marked 84 82 78 net ≡ true → netServed (versionOf net) ≡ true → NetworkFits net → netNumber net ≡ 0
+unfolding netNumber headerNumber sizesFit
+fits-passes net mark version fits =
     rw (
-      le-leb 16 (length s) (omega arith),
+      le-leb 16 (length net) (omega arith),
       mark,
       version,
-      le-leb 1 (junctionsOf s) (fits .some-junction),
-      le-leb (junctionsOf s) 1024 (fits .few-junctions),
-      le-leb (roadsOf s) 4096 (fits .few-roads),
-      eq-eqb (length s) (16 + 8 * roadsOf s) (fits .whole),
+      le-leb 1 (junctionsOf net) (fits .some-junction),
+      le-leb (junctionsOf net) 1024 (fits .few-junctions),
+      le-leb (roadsOf net) 4096 (fits .few-roads),
+      eq-eqb (length net) (16 + 8 * roadsOf net) (fits .whole),
     )
-    (all-pass (recordNumber s) (roadsOf s) (λ k from below. record-back s k (record {
+    (all-pass (recordNumber net) (roadsOf net) (λ k from below. record-back net k (record {
       low-below-high = fits .low-below-high k (omega arith);
       high-on-map = fits .high-on-map k (omega arith);
       rises = fits .rises k (omega arith);

@@ -22,10 +22,10 @@ use Rattle.network.specs.NetworkFile.{
   roadHigh,
   roadTime,
   roadEnergy,
-  recordRises,
   RoadArc,
   networkOf,
 }
+use Rattle.network.specs.NetworkNumber.{recordRises}
 use Rattle.network.specs.working.Fits.{NetworkFits}
 use Rattle.bytes.proofs.Numbers.{u16-small}
 

@@ -10,8 +10,7 @@ ghost use mathlib.Core.Path.{_≡_};
 ghost use Prim.Native.Nat.{_+_, _*_, _≤_};
 ghost use lib.ListN.{length};
 ghost use Rattle.refusals.specs.Order.{firstFault};
-ghost use Rattle.network.specs.NetworkFile.{recordRises, recordNumber, sizesFit, netNumber};
-ghost use Rattle.network.specs.NetworkTests.{endsFit, figuresFit, headerNumber};
+ghost use Rattle.network.specs.NetworkNumber.{recordRises, endsFit, figuresFit, recordNumber, sizesFit, headerNumber, netNumber};
 
 // Record k stands after the one before.
 fn record_rises(net: &[u8], k: usize) -> bool

@@ -8,7 +8,7 @@ use Rattle.paths.specs.Route.{FirstRoute}
 use Rattle.refusals.specs.Lent.{filled}
 use Rattle.network.specs.NetworkFile.{networkOf}
 use Rattle.stored.specs.working.Formed.{Tables}
-use Rattle.network.specs.NetworkFile.{netNumber}
+use Rattle.network.specs.NetworkNumber.{netNumber}
 use Rattle.stored.specs.Right.{EveryListRight}
 use Rattle.files.specs.LabelForm.{formBeside}
 use Rattle.labels.specs.Check.{Checked}

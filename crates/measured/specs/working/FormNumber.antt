@@ -2,7 +2,7 @@
 use mathlib.Core.Path.{_≡_}
 use mathlib.Core.List.{List}
 use Prim.Native.Nat.{ℕ}
-use Rattle.network.specs.NetworkFile.{netNumber}
+use Rattle.network.specs.NetworkNumber.{netNumber}
 use Rattle.files.specs.LabelForm.{formBeside}
 
 -- The number of the network or, where that is 0, of the labels beside it

@@ -6,16 +6,17 @@ use mathlib.Core.List.{List}
 use Prim.Native.Nat.{ℕ, _+_, _*_, _≤_, _<_}
 use lib.ListN.{length}
 use Rattle.network.specs.Versions.{leastEnergy}
-use Rattle.network.specs.NetworkFile.{versionOf, junctionsOf, roadsOf, roadLow, roadHigh, roadTime, roadEnergy, recordRises}
+use Rattle.network.specs.NetworkFile.{versionOf, junctionsOf, roadsOf, roadLow, roadHigh, roadTime, roadEnergy}
+use Rattle.network.specs.NetworkNumber.{recordRises}
 
 -- A network that passed
-pub record NetworkFits (s : List ℕ) : Type 0 where
-  pub some-junction : 1 ≤ junctionsOf s
-  pub few-junctions : junctionsOf s ≤ 1024
-  pub few-roads : roadsOf s ≤ 4096
-  pub whole : length s ≡ 16 + 8 * roadsOf s
-  pub low-below-high : (k : ℕ) → k < roadsOf s → roadLow s k < roadHigh s k
-  pub high-on-map : (k : ℕ) → k < roadsOf s → roadHigh s k < junctionsOf s
-  pub rises : (k : ℕ) → k < roadsOf s → recordRises s k ≡ true
-  pub takes-time : (k : ℕ) → k < roadsOf s → 1 ≤ roadTime s k
-  pub takes-energy : (k : ℕ) → k < roadsOf s → leastEnergy (versionOf s) ≤ roadEnergy s k
+pub record NetworkFits (net : List ℕ) : Type 0 where
+  pub some-junction : 1 ≤ junctionsOf net
+  pub few-junctions : junctionsOf net ≤ 1024
+  pub few-roads : roadsOf net ≤ 4096
+  pub whole : length net ≡ 16 + 8 * roadsOf net
+  pub low-below-high : (k : ℕ) → k < roadsOf net → roadLow net k < roadHigh net k
+  pub high-on-map : (k : ℕ) → k < roadsOf net → roadHigh net k < junctionsOf net
+  pub rises : (k : ℕ) → k < roadsOf net → recordRises net k ≡ true
+  pub takes-time : (k : ℕ) → k < roadsOf net → 1 ≤ roadTime net k
+  pub takes-energy : (k : ℕ) → k < roadsOf net → leastEnergy (versionOf net) ≤ roadEnergy net k

@@ -1,6 +1,6 @@
 -- The invariant: the first fault of all records is the first fault of those from k on.
 use Prim.Native.Nat.{_-_}
-use Rattle.network.specs.NetworkFile.{recordNumber}
+use Rattle.network.specs.NetworkNumber.{recordNumber}
 use Rattle.refusals.proofs.FaultLoop.{FaultsLeft, faults-start, faults-here, faults-more, faults-end}
 use borrow.Author.Needs.{needs}
 use Rattle.network.proofs.network.records_number.Statement.{statement}

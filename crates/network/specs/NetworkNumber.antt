@@ -1,0 +1,54 @@
+-- The refusals 1 to 6 of a network file, in their order (document 01, "Refusal numbers and their order").
+use mathlib.Core.Bool.{Bool, true, _&&_, _||_}
+use mathlib.Core.List.{List}
+use Prim.Native.Nat.{ℕ, zero, suc, _+_, _*_}
+use lib.Dec.{leb, ltb, eqb}
+use lib.ListN.{length}
+use Rattle.refusals.specs.Order.{unless, decided, firstFault}
+use Rattle.bytes.specs.Bytes.{marked}
+use Rattle.network.specs.Versions.{netServed, leastEnergy}
+use Rattle.network.specs.NetworkFile.{versionOf, junctionsOf, roadsOf, roadLow, roadHigh, roadTime, roadEnergy}
+
+-- ---- A record
+
+-- "records strictly rise by (lower, higher)": record k stands after the one before
+abbrev pub recordRises : List ℕ → ℕ → Bool
+recordRises net zero = true
+recordRises net (suc k) =
+    ltb (roadLow net k) (roadLow net (suc k))
+    || (eqb (roadLow net k) (roadLow net (suc k)) && ltb (roadHigh net k) (roadHigh net (suc k)))
+
+-- "5 ends not lower < higher < n, or record not after the one before"
+unfoldable pub endsFit : List ℕ → ℕ → Bool
+endsFit net k = ltb (roadLow net k) (roadHigh net k) && ltb (roadHigh net k) (junctionsOf net) && recordRises net k
+
+-- "6 time or energy 0"
+unfoldable pub figuresFit : List ℕ → ℕ → Bool
+figuresFit net k = leb 1 (roadTime net k) && leb (leastEnergy (versionOf net)) (roadEnergy net k)
+
+-- "5 before 6 in each"
+unfoldable pub recordNumber : List ℕ → ℕ → ℕ
+recordNumber net k =
+    unless (endsFit net k) 5
+    (unless (figuresFit net k) 6
+    0)
+
+-- ---- The whole file
+
+-- "n, 1 to 1,024", "m roads, 0 to 4,096"
+unfoldable pub sizesFit : List ℕ → Bool
+sizesFit net = leb 1 (junctionsOf net) && leb (junctionsOf net) 1024 && leb (roadsOf net) 4096
+
+-- "1 (under 16), 2, 3, 4, 1 (whole length)", and 0 where the records decide
+unfoldable pub headerNumber : List ℕ → ℕ
+headerNumber net =
+    unless (leb 16 (length net)) 1
+    (unless (marked 84 82 78 net) 2
+    (unless (netServed (versionOf net)) 3
+    (unless (sizesFit net) 4
+    (unless (eqb (length net) (16 + 8 * roadsOf net)) 1
+    0))))
+
+-- "then records in file order"
+unfoldable pub netNumber : List ℕ → ℕ
+netNumber net = decided (headerNumber net) (firstFault (recordNumber net) 0 (roadsOf net))
