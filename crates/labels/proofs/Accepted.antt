@@ -3,6 +3,7 @@ use mathlib.Core.Path.{_≡_, sym, _∙_}
 use mathlib.Core.List.{List}
 use Prim.Native.Nat.{ℕ}
 use native.Mathlib.Omega.{arith}
+use Rattle.network.specs.Versions.{versionOne}
 use Rattle.network.proofs.Accepted.{network-fits}
 use Rattle.files.proofs.FormLaws.{form-beside-passed}
 use Rattle.labels.specs.working.Working.{Accepted}
@@ -29,7 +30,7 @@ pub ready-for-queries : {net s depths starts heads nexts : List ℕ} {number : �
 ready-for-queries {net} {s} accepting none =
     let a = zero-accepts (accepting .checked) none in
     record {
-      beside = form-beside-passed s (network-fits net (a .network-passes)) (a .form-passes);
+      beside = form-beside-passed s (network-fits versionOne net (a .network-passes)) (a .form-passes);
       every-list-right = a .every-list-right;
       depths-filled = accepting .tables none .depths-filled;
       starts-filled = accepting .tables none .starts-filled;

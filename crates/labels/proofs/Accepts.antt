@@ -5,6 +5,8 @@ use mathlib.Core.List.{List}
 use Prim.Native.Nat.{ℕ}
 use lib.ListN.{length}
 use Rattle.refusals.specs.working.Decides.{Decides}
+use Rattle.network.specs.declared.versions.Served.{Served}
+use Rattle.network.specs.Versions.{versionOne}
 use Rattle.network.specs.NetworkNumber.{netNumber}
 use Rattle.network.specs.working.Fits.{NetworkFits}
 use Rattle.network.specs.working.Roads.{Grouped}
@@ -15,9 +17,13 @@ use Rattle.stored.specs.Right.{EveryListRight}
 use Rattle.labels.specs.Check.{Checked, network-refused, labels-refused, list-wrong, accepted}
 use Rattle.labels.specs.working.Working.{Accepting}
 
+-- the check serves version 1
+pub serves-one : (net : List ℕ) {number : ℕ} {serves : Served} → serves ≡ versionOne → number ≡ netNumber serves net → number ≡ netNumber versionOne net
+serves-one net one is = rw one at is
+
 -- a network that passed has no number
-pub network-passes : {net : List ℕ} {number : ℕ} → number ≡ netNumber net → number ≡ 0 → NetworkFits net
-network-passes {net} is none = network-fits net (sym is ∙ none)
+pub network-passes : {net : List ℕ} {number : ℕ} → number ≡ netNumber versionOne net → number ≡ 0 → NetworkFits net
+network-passes {net} is none = network-fits versionOne net (sym is ∙ none)
 
 -- labels whose form passed stand beside their network
 pub form-passes : {net s depths starts : List ℕ} {r : ℕ} → BesideRead net s depths starts r → r ≡ 0 → Beside net s
@@ -25,7 +31,7 @@ form-passes form none = form .beside none
 
 module _ {net s depths starts heads nexts : List ℕ} where
   pub network-refuses :
-      {r : ℕ} → r ≡ netNumber net → (r ≡ 0 → ⊥) →
+      {r : ℕ} → r ≡ netNumber versionOne net → (r ≡ 0 → ⊥) →
       length depths ≡ 1024 → length starts ≡ 1024 → length heads ≡ 1024 → length nexts ≡ 8192 →
       Accepting net s r depths starts heads nexts
   network-refuses is some d a h x =
@@ -39,7 +45,7 @@ module _ {net s depths starts heads nexts : List ℕ} where
       }
 
   pub labels-refuse :
-      {r : ℕ} (number : ℕ) → number ≡ netNumber net → number ≡ 0 → BesideRead net s depths starts r → (r ≡ 0 → ⊥) →
+      {r : ℕ} (number : ℕ) → number ≡ netNumber versionOne net → number ≡ 0 → BesideRead net s depths starts r → (r ≡ 0 → ⊥) →
       length heads ≡ 1024 → length nexts ≡ 8192 → Accepting net s r depths starts heads nexts
   labels-refuse number is none form some h x =
       record {
@@ -55,7 +61,7 @@ module _ {net s depths starts heads nexts : List ℕ} where
   tables-filled form none grouped =
       record { depths-filled = form .read .depths-filled none; starts-filled = form .read .starts-filled none; grouped = grouped }
 
-  module _ (number r : ℕ) (is : number ≡ netNumber net) (none : number ≡ 0) (form : BesideRead net s depths starts r) (passes : r ≡ 0) (grouped : Grouped net heads nexts) where
+  module _ (number r : ℕ) (is : number ≡ netNumber versionOne net) (none : number ≡ 0) (form : BesideRead net s depths starts r) (passes : r ≡ 0) (grouped : Grouped net heads nexts) where
     accepting : {answer : ℕ} → Checked net s answer → Accepting net s answer depths starts heads nexts
     accepting checked =
         record {

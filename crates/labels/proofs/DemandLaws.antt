@@ -19,6 +19,7 @@ use Rattle.paths.proofs.Answers.{Outcome, outcome}
 use Rattle.paths.proofs.Route.{firstRoute-unique}
 use Rattle.refusals.specs.Lent.{filled}
 use Rattle.lists.specs.Entries.{times, energies}
+use Rattle.network.specs.Versions.{versionOne}
 use Rattle.network.specs.NetworkFile.{networkOf, junctionsOf}
 use Rattle.network.specs.NetworkNumber.{netNumber}
 use Rattle.network.proofs.Arcs.{network-finite}
@@ -64,7 +65,7 @@ right-complete every =
     }
 
 pub accepted-complete :
-    {net s : List ℕ} {number : ℕ} → netNumber net ≡ 0 → formBeside net s ≡ 0 → Checked net s number → (number ≡ 0) ↔ Complete net s
+    {net s : List ℕ} {number : ℕ} → netNumber versionOne net ≡ 0 → formBeside net s ≡ 0 → Checked net s number → (number ≡ 0) ↔ Complete net s
 accepted-complete {net} {s} network form check = (
   (λ z. right-complete (zero-accepts check z .every-list-right)),
   λ complete.
@@ -72,7 +73,7 @@ accepted-complete {net} {s} network form check = (
       (accepted-zero (record {
         network-passes = network;
         form-passes = form;
-        every-list-right = complete-right (form-beside-passed s (network-fits net network) form) complete;
+        every-list-right = complete-right (form-beside-passed s (network-fits versionOne net network) form) complete;
       })),
 )
 

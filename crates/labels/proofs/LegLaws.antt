@@ -14,6 +14,7 @@ use Rattle.paths.proofs.Cuts.{demand3-answered, demand3-refused}
 use Rattle.network.specs.NetworkFile.{networkOf, junctionsOf}
 use Rattle.network.specs.working.Fits.{NetworkFits}
 use Rattle.network.proofs.Arcs.{arc-on-map, network-finite}
+use Rattle.network.specs.Versions.{versionOne}
 use Rattle.network.proofs.Accepted.{network-fits}
 use Rattle.query.specs.Answers.{found}
 use Rattle.query.proofs.AnswersUnique.{answers-unique}
@@ -61,7 +62,7 @@ module _ {net s : List ℕ} (check : Checked net s 0) {H : ℕ → Type 0} {x y 
   -- two best legs between junctions are answered
   best-legs : {p : weights energy .Figure} → x < junctionsOf net → y < junctionsOf net → Legs (networkOf net) H x y C p → AnsweredLegs net s H x y C (time energy p) (spent energy p)
   best-legs h k l =
-      let middle = walk-ends (network-fits net (zero-accepts check refl .network-passes)) h (l .first-leg .walk) in
+      let middle = walk-ends (network-fits versionOne net (zero-accepts check refl .network-passes)) h (l .first-leg .walk) in
       record {
         at = l .at;
         inside = l .inside;

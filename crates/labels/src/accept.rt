@@ -4,6 +4,7 @@ use exact::sweep::exact;
 use files::form::form_beside;
 use network::network::net_number;
 use network::roads::group_roads;
+use network::versions::version_one;
 ghost use mathlib.Core.Path.{_≡_};
 ghost use lib.ListN.{length};
 ghost use Rattle.labels.specs.working.Working.{Accepting};
@@ -22,7 +23,7 @@ pub fn accept(
     // Made and used first of all, so that the compiler makes the frame at the start.
     let mut places: [u32; 1024] = [0; 1024];
     let mut marks: [u8; 4096] = [0; 4096];
-    let number = net_number(net);
+    let number = net_number(net, version_one());
     if number != 0 {
         return number;
     }

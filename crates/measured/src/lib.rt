@@ -7,6 +7,7 @@ use joins::limited::limited_join;
 use labels::accept::accept;
 use labels::triples::answer_all;
 use network::network::net_number;
+use network::versions::version_one;
 use paths::energy::Energy;
 use paths::seconds::Seconds;
 use routes::list::list_count;
@@ -56,7 +57,7 @@ pub extern "C" fn measured_check(net: &[u8], labels: &[u8]) -> u32
 pub extern "C" fn measured_form(net: &[u8], labels: &[u8]) -> u32
     ensures { λ r. ⌜ FormNumber (now (net .entry)) (now (labels .entry)) r ⌝ }
 {
-    let number = net_number(net);
+    let number = net_number(net, version_one());
     if number != 0 {
         return number;
     }

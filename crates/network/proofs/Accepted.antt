@@ -11,11 +11,13 @@ use borrow.Author.Tests.{ltb-true, lt-ltb, leb-true, le-leb, eq-eqb}
 use Rattle.refusals.specs.Order.{decided}
 use Rattle.refusals.proofs.Order.{unless-passed, and-both, no-fault, all-pass}
 use Rattle.bytes.specs.Bytes.{marked}
-use Rattle.network.specs.Versions.{netServed, leastEnergy}
+use Rattle.network.specs.declared.versions.Served.{Served}
+use Rattle.network.specs.Versions.{served, leastEnergy}
 use Rattle.network.specs.NetworkFile.{
   versionOf,
   junctionsOf,
   roadsOf,
+  recordAt,
   roadLow,
   roadHigh,
   roadTime,
@@ -75,11 +77,11 @@ decided-none zero then e = (refl, e)
 decided-none (suc first) then e = absurd (omega arith)
 
 -- an accepted network fits
-pub network-fits : (net : List ℕ) → netNumber net ≡ 0 → NetworkFits net
+pub network-fits : (serves : Served) (net : List ℕ) → netNumber serves net ≡ 0 → NetworkFits net
 unfolding netNumber
-network-fits net passes =
-    let parts = decided-none (headerNumber net) _ (passes) in
-    let header = header-fits net (parts .0) in
+network-fits serves net passes =
+    let parts = decided-none (headerNumber serves net) _ (passes) in
+    let header = header-fits serves net (parts .0) in
     let each : (k : ℕ) → k < roadsOf net → RecordFits net k = λ k h. record-fits net k (no-fault (recordNumber net) (roadsOf net) (parts .1) (omega arith) (omega arith)) in
     record {
       some-junction = header .some-junction;
@@ -94,9 +96,9 @@ network-fits net passes =
     }
 
 -- and back: what is marked, of a version that is served, and fits, has number 0
-pub fits-passes : (net : List ℕ) → marked 84 82 78 net ≡ true → netServed (versionOf net) ≡ true → NetworkFits net → netNumber net ≡ 0
+pub fits-passes : (serves : Served) (net : List ℕ) → marked 84 82 78 net ≡ true → served serves (versionOf net) ≡ true → NetworkFits net → netNumber serves net ≡ 0
 unfolding netNumber headerNumber sizesFit
-fits-passes net mark version fits =
+fits-passes serves net mark version fits =
     rw (
       le-leb 16 (length net) (omega arith),
       mark,
@@ -104,7 +106,7 @@ fits-passes net mark version fits =
       le-leb 1 (junctionsOf net) (fits .some-junction),
       le-leb (junctionsOf net) 1024 (fits .few-junctions),
       le-leb (roadsOf net) 4096 (fits .few-roads),
-      eq-eqb (length net) (16 + 8 * roadsOf net) (fits .whole),
+      eq-eqb (length net) (recordAt net (roadsOf net) 0) (fits .whole),
     )
     (all-pass (recordNumber net) (roadsOf net) (λ k from below. record-back net k (record {
       low-below-high = fits .low-below-high k (omega arith);

@@ -1,4 +1,5 @@
 -- Laws of the network file, for those who read it further.
+pub mod VersionTable
 pub mod NetworkTests
 pub mod Accepted
 pub mod Arcs

@@ -11,9 +11,10 @@ use borrow.Author.Tests.{lt-ltb, le-ltb, le-leb, lt-leb, eq-eqb, ne-eqb, not-tru
 use Rattle.refusals.specs.Order.{unless, decided, firstFault}
 use Rattle.refusals.proofs.Order.{unless-passed, and-both}
 use Rattle.bytes.specs.Bytes.{marked}
-use Rattle.network.specs.Versions.{netServed, leastEnergy}
-use Rattle.bytes.specs.working.Reads.{ReadU16}
-use Rattle.network.specs.NetworkFile.{versionOf, junctionsOf, roadsOf, roadLow, roadHigh}
+use Rattle.network.specs.declared.versions.Served.{Served}
+use Rattle.network.specs.Versions.{served, leastEnergy}
+use Rattle.bytes.specs.working.Reads.{Read16}
+use Rattle.network.specs.NetworkFile.{versionOf, junctionsOf, roadsOf, recordAt, roadLow, roadHigh, roadTime, roadEnergy}
 use Rattle.network.specs.NetworkNumber.{recordRises, endsFit, figuresFit, recordNumber, sizesFit, headerNumber, netNumber}
 
 -- ---- 5, the record before
@@ -26,7 +27,7 @@ rises-after net (suc k) h = rw before
     before : suc k - 1 ≡ k
     before = omega arith
 
-module _ (net : List ℕ) (k : ℕ) {low-before low : ℕ} (later : k ≡ 0 → ⊥) (before-is : ReadU16 net (16 + 8 * (k - 1)) low-before) (low-is : ReadU16 net (16 + 8 * k) low) where
+module _ (net : List ℕ) (k : ℕ) {low-before low : ℕ} (later : k ≡ 0 → ⊥) (before-is : Read16 (roadLow net (k - 1)) low-before) (low-is : Read16 (roadLow net k) low) where
   -- the lower junction rises
   pub rises-low : low-before < low → true ≡ recordRises net k
   rises-low h = rw (rises-after net k later, lt-ltb (roadLow net (k - 1)) (roadLow net k) (omega arith))
@@ -41,7 +42,7 @@ module _ (net : List ℕ) (k : ℕ) {low-before low : ℕ} (later : k ≡ 0 → 
       )
 
   -- the lower junction stays, and the higher one decides
-  pub same-low : {high-before high : ℕ} → low-before ≡ low → ReadU16 net (18 + 8 * (k - 1)) high-before → ReadU16 net (18 + 8 * k) high → ltb high-before high ≡ recordRises net k
+  pub same-low : {high-before high : ℕ} → low-before ≡ low → Read16 (roadHigh net (k - 1)) high-before → Read16 (roadHigh net k) high → ltb high-before high ≡ recordRises net k
   same-low e high-before-is high-is =
       rw (
         rises-after net k later,
@@ -53,13 +54,13 @@ module _ (net : List ℕ) (k : ℕ) {low-before low : ℕ} (later : k ≡ 0 → 
 
 -- ---- 5, the ends
 
-module _ (net : List ℕ) (k : ℕ) {low high : ℕ} (low-is : ReadU16 net (16 + 8 * k) low) (high-is : ReadU16 net (18 + 8 * k) high) where
+module _ (net : List ℕ) (k : ℕ) {low high : ℕ} (low-is : Read16 (roadLow net k) low) (high-is : Read16 (roadHigh net k) high) where
   -- the ends stand in the wrong order, or are one
   pub ends-crossed : high ≤ low → false ≡ endsFit net k
   unfolding endsFit
   ends-crossed h = rw (le-ltb (roadLow net k) (roadHigh net k) (omega arith))
 
-  module _ {junctions : ℕ} (junctions-is : ReadU16 net 6 junctions) (apart : low < high) where
+  module _ {junctions : ℕ} (junctions-is : Read16 (junctionsOf net) junctions) (apart : low < high) where
     -- the higher end is not on the map
     pub end-off-map : junctions ≤ high → false ≡ endsFit net k
     unfolding endsFit
@@ -74,14 +75,14 @@ module _ (net : List ℕ) (k : ℕ) {low high : ℕ} (low-is : ReadU16 net (16 +
 
 -- ---- 6
 
-module _ (net : List ℕ) (k : ℕ) {seconds : ℕ} {takes : Bool} (time-is : ReadU16 net (20 + 8 * k) seconds) (takes-is : takes ≡ leb 1 seconds) where
+module _ (net : List ℕ) (k : ℕ) {seconds : ℕ} {takes : Bool} (time-is : Read16 (roadTime net k) seconds) (takes-is : takes ≡ leb 1 seconds) where
   -- no time
   pub figures-no-time : not takes ≡ true → false ≡ figuresFit net k
   unfolding figuresFit
   figures-no-time fails = rw (← time-is .is, ← takes-is, not-true takes fails)
 
   -- some time, and the energy decides
-  pub figures-energy : {units version least : ℕ} {spends : Bool} → not takes ≡ false → ReadU16 net (22 + 8 * k) units → ReadU16 net 3 version → least ≡ leastEnergy version → spends ≡ leb least units → spends ≡ figuresFit net k
+  pub figures-energy : {energy version least : ℕ} {spends : Bool} → not takes ≡ false → Read16 (roadEnergy net k) energy → Read16 (versionOf net) version → least ≡ leastEnergy version → spends ≡ leb least energy → spends ≡ figuresFit net k
   unfolding figuresFit
   figures-energy holds energy-is version-is least-is spends-is = rw (← time-is .is, ← takes-is, not-false takes holds, ← energy-is .is, ← least-is) spends-is
 
@@ -106,7 +107,7 @@ module _ (net : List ℕ) (k : ℕ) {ends : Bool} (ends-is : ends ≡ endsFit ne
 
 -- ---- 4
 
-module _ (net : List ℕ) {junctions : ℕ} (junctions-is : ReadU16 net 6 junctions) where
+module _ (net : List ℕ) {junctions : ℕ} (junctions-is : Read16 (junctionsOf net) junctions) where
   -- no junction
   pub sizes-none : junctions < 1 → false ≡ sizesFit net
   unfolding sizesFit
@@ -125,41 +126,41 @@ module _ (net : List ℕ) {junctions : ℕ} (junctions-is : ReadU16 net 6 juncti
 
 -- ---- The header
 
-module _ (net : List ℕ) where
+module _ (serves : Served) (net : List ℕ) where
   -- 1, under 16 bytes
-  pub header-short : length net < 16 → 1 ≡ headerNumber net
+  pub header-short : length net < 16 → 1 ≡ headerNumber serves net
   unfolding headerNumber
   header-short h = rw (lt-leb 16 (length net) h)
 
   module _ (long : 16 ≤ length net) {mark : Bool} (mark-is : mark ≡ marked 84 82 78 net) where
     -- 2
-    pub header-unmarked : not mark ≡ true → 2 ≡ headerNumber net
+    pub header-unmarked : not mark ≡ true → 2 ≡ headerNumber serves net
     unfolding headerNumber
     header-unmarked fails = rw (le-leb 16 (length net) long, ← mark-is, not-true mark fails)
 
-    module _ (has-mark : not mark ≡ false) {version : ℕ} {served : Bool} (version-is : ReadU16 net 3 version) (served-is : served ≡ netServed version) where
+    module _ (has-mark : not mark ≡ false) {version : ℕ} {known : Bool} (version-is : Read16 (versionOf net) version) (known-is : known ≡ served serves version) where
       -- 3
-      pub header-unserved : not served ≡ true → 3 ≡ headerNumber net
+      pub header-unserved : not known ≡ true → 3 ≡ headerNumber serves net
       unfolding headerNumber
-      header-unserved fails = rw (le-leb 16 (length net) long, ← mark-is, not-false mark has-mark, ← version-is .is, ← served-is, not-true served fails)
+      header-unserved fails = rw (le-leb 16 (length net) long, ← mark-is, not-false mark has-mark, ← version-is .is, ← known-is, not-true known fails)
 
-      module _ (is-served : not served ≡ false) {sizes : Bool} (sizes-is : sizes ≡ sizesFit net) where
+      module _ (is-known : not known ≡ false) {sizes : Bool} (sizes-is : sizes ≡ sizesFit net) where
         -- what is left after 3
-        after-served : headerNumber net ≡ unless sizes 4 (unless (eqb (length net) (16 + 8 * roadsOf net)) 1 0)
+        after-served : headerNumber serves net ≡ unless sizes 4 (unless (eqb (length net) (recordAt net (roadsOf net) 0)) 1 0)
         unfolding headerNumber
-        after-served = rw (le-leb 16 (length net) long, ← mark-is, not-false mark has-mark, ← version-is .is, ← served-is, not-false served is-served, ← sizes-is)
+        after-served = rw (le-leb 16 (length net) long, ← mark-is, not-false mark has-mark, ← version-is .is, ← known-is, not-false known is-known, ← sizes-is)
 
         -- 4
-        pub header-sizes : not sizes ≡ true → 4 ≡ headerNumber net
+        pub header-sizes : not sizes ≡ true → 4 ≡ headerNumber serves net
         header-sizes fails = rw (after-served, not-true sizes fails)
 
         module _ (sizes-fit : not sizes ≡ false) {roads : ℕ} (roads-is : roads ≡ roadsOf net) where
           -- 1, the whole length
-          pub header-not-whole : (length net ≡ 16 + 8 * roads → ⊥) → 1 ≡ headerNumber net
+          pub header-not-whole : (length net ≡ 16 + 8 * roads → ⊥) → 1 ≡ headerNumber serves net
           header-not-whole fails = rw (after-served, not-false sizes sizes-fit, ← roads-is, ne-eqb (length net) (16 + 8 * roads) fails)
 
           -- no fault
-          pub header-passes : length net ≡ 16 + 8 * roads → 0 ≡ headerNumber net
+          pub header-passes : length net ≡ 16 + 8 * roads → 0 ≡ headerNumber serves net
           header-passes holds = rw (after-served, not-false sizes sizes-fit, ← roads-is, eq-eqb (length net) (16 + 8 * roads) holds)
 
 -- What a header that passed says of sizes
@@ -167,17 +168,17 @@ pub record HeaderFits (net : List ℕ) : Type 0 where
   pub some-junction : 1 ≤ junctionsOf net
   pub few-junctions : junctionsOf net ≤ 1024
   pub few-roads : roadsOf net ≤ 4096
-  pub whole : length net ≡ 16 + 8 * roadsOf net
+  pub whole : length net ≡ recordAt net (roadsOf net) 0
 
 -- a header's number 0 says so
-pub header-fits : (net : List ℕ) → headerNumber net ≡ 0 → HeaderFits net
+pub header-fits : (serves : Served) (net : List ℕ) → headerNumber serves net ≡ 0 → HeaderFits net
 unfolding headerNumber sizesFit
-header-fits net passes =
+header-fits serves net passes =
     let after-length = unless-passed {test = leb 16 (length net)} (λ e. omega arith) passes .1 in
     let after-mark = unless-passed {test = marked 84 82 78 net} (λ e. omega arith) after-length .1 in
-    let after-version = unless-passed {test = netServed (versionOf net)} (λ e. omega arith) after-mark .1 in
+    let after-version = unless-passed {test = served serves (versionOf net)} (λ e. omega arith) after-mark .1 in
     let sizes = unless-passed {test = leb 1 (junctionsOf net) && leb (junctionsOf net) 1024 && leb (roadsOf net) 4096} (λ e. omega arith) after-version in
-    let whole = unless-passed {test = eqb (length net) (16 + 8 * roadsOf net)} (λ e. omega arith) (sizes .1) .0 in
+    let whole = unless-passed {test = eqb (length net) (recordAt net (roadsOf net) 0)} (λ e. omega arith) (sizes .1) .0 in
     let roads = and-both (leb 1 (junctionsOf net) && leb (junctionsOf net) 1024) (leb (roadsOf net) 4096) (sizes .0) in
     let junctions = and-both (leb 1 (junctionsOf net)) (leb (junctionsOf net) 1024) (roads .0) in
     record {
@@ -190,22 +191,22 @@ header-fits net passes =
 -- ---- The header decides, or the records do
 
 -- the header's number is the file's
-pub refused-by-header : (net : List ℕ) {refused : ℕ} → refused ≡ headerNumber net → (refused ≡ 0 → ⊥) → refused ≡ netNumber net
+pub refused-by-header : (serves : Served) (net : List ℕ) {refused : ℕ} → refused ≡ headerNumber serves net → (refused ≡ 0 → ⊥) → refused ≡ netNumber serves net
 unfolding netNumber
-refused-by-header net {refused = zero} header-is fails = absurd (fails refl)
-refused-by-header net {refused = suc number} header-is fails = rw (← header-is)
+refused-by-header serves net {refused = zero} header-is fails = absurd (fails refl)
+refused-by-header serves net {refused = suc number} header-is fails = rw (← header-is)
 
-module _ (net : List ℕ) {refused : ℕ} (header-is : refused ≡ headerNumber net) (passes : refused ≡ 0) where
+module _ (serves : Served) (net : List ℕ) {refused : ℕ} (header-is : refused ≡ headerNumber serves net) (passes : refused ≡ 0) where
   -- the number of roads can be read
-  pub roads-readable : 8 + 4 ≤ length net
-  roads-readable = omega (arith, header-fits net (sym header-is ∙ passes))
+  pub roads-readable : 16 ≤ length net
+  roads-readable = omega (arith, header-fits serves net (sym header-is ∙ passes))
 
   module _ {roads : ℕ} (roads-is : roads ≡ roadsOf net) where
     -- the records can be read
     pub records-readable : 16 + 8 * roads ≤ length net
-    records-readable = omega (arith, header-fits net (sym header-is ∙ passes))
+    records-readable = omega (arith, header-fits serves net (sym header-is ∙ passes))
 
     -- the records decide
-    pub records-decide : {r : ℕ} → r ≡ firstFault (recordNumber net) 0 roads → r ≡ netNumber net
+    pub records-decide : {r : ℕ} → r ≡ firstFault (recordNumber net) 0 roads → r ≡ netNumber serves net
     unfolding netNumber
     records-decide e = rw (← header-is, passes, ← roads-is) e

@@ -6,6 +6,7 @@ use Prim.Native.Nat.{ℕ, _+_, _*_, _≤_, _<_}
 use Rattle.paths.specs.Weights.{weights, energy, pair, time}
 use Rattle.paths.specs.Network.{Network}
 use Rattle.bytes.specs.Bytes.{u16At, u32At}
+use Rattle.network.specs.Versions.{recordBytes}
 
 -- The header: "3–4 version", "6–7 n", "8–11 m roads", "12–15 identity"; the label file has version, n and identity at the same bytes
 abbrev pub versionOf : List ℕ → ℕ
@@ -20,18 +21,22 @@ roadsOf net = u32At net 8
 abbrev pub identityOf : List ℕ → ℕ
 identityOf file = u32At file 12
 
+-- Where a byte of record k stands: the records follow the header's 16 bytes, all of one length
+abbrev pub recordAt : List ℕ → ℕ → ℕ → ℕ
+recordAt net k byte = 16 + byte + recordBytes (versionOf net) * k
+
 -- Record k: "lower junction, higher junction, time, energy, 16 bits each"
 abbrev pub roadLow : List ℕ → ℕ → ℕ
-roadLow net k = u16At net (16 + 8 * k)
+roadLow net k = u16At net (recordAt net k 0)
 
 abbrev pub roadHigh : List ℕ → ℕ → ℕ
-roadHigh net k = u16At net (18 + 8 * k)
+roadHigh net k = u16At net (recordAt net k 2)
 
 abbrev pub roadTime : List ℕ → ℕ → ℕ
-roadTime net k = u16At net (20 + 8 * k)
+roadTime net k = u16At net (recordAt net k 4)
 
 abbrev pub roadEnergy : List ℕ → ℕ → ℕ
-roadEnergy net k = u16At net (22 + 8 * k)
+roadEnergy net k = u16At net (recordAt net k 6)
 
 -- ---- The roads as arcs
 

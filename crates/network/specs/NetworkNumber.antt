@@ -1,13 +1,14 @@
 -- The refusals 1 to 6 of a network file, in their order (document 01, "Refusal numbers and their order").
 use mathlib.Core.Bool.{Bool, true, _&&_, _||_}
 use mathlib.Core.List.{List}
-use Prim.Native.Nat.{ℕ, zero, suc, _+_, _*_}
+use Prim.Native.Nat.{ℕ, zero, suc}
 use lib.Dec.{leb, ltb, eqb}
 use lib.ListN.{length}
 use Rattle.refusals.specs.Order.{unless, decided, firstFault}
 use Rattle.bytes.specs.Bytes.{marked}
-use Rattle.network.specs.Versions.{netServed, leastEnergy}
-use Rattle.network.specs.NetworkFile.{versionOf, junctionsOf, roadsOf, roadLow, roadHigh, roadTime, roadEnergy}
+use Rattle.network.specs.declared.versions.Served.{Served}
+use Rattle.network.specs.Versions.{served, leastEnergy}
+use Rattle.network.specs.NetworkFile.{versionOf, junctionsOf, roadsOf, recordAt, roadLow, roadHigh, roadTime, roadEnergy}
 
 -- ---- A record
 
@@ -40,15 +41,15 @@ unfoldable pub sizesFit : List ℕ → Bool
 sizesFit net = leb 1 (junctionsOf net) && leb (junctionsOf net) 1024 && leb (roadsOf net) 4096
 
 -- "1 (under 16), 2, 3, 4, 1 (whole length)", and 0 where the records decide
-unfoldable pub headerNumber : List ℕ → ℕ
-headerNumber net =
+unfoldable pub headerNumber : Served → List ℕ → ℕ
+headerNumber serves net =
     unless (leb 16 (length net)) 1
     (unless (marked 84 82 78 net) 2
-    (unless (netServed (versionOf net)) 3
+    (unless (served serves (versionOf net)) 3
     (unless (sizesFit net) 4
-    (unless (eqb (length net) (16 + 8 * roadsOf net)) 1
+    (unless (eqb (length net) (recordAt net (roadsOf net) 0)) 1
     0))))
 
 -- "then records in file order"
-unfoldable pub netNumber : List ℕ → ℕ
-netNumber net = decided (headerNumber net) (firstFault (recordNumber net) 0 (roadsOf net))
+unfoldable pub netNumber : Served → List ℕ → ℕ
+netNumber serves net = decided (headerNumber serves net) (firstFault (recordNumber net) 0 (roadsOf net))

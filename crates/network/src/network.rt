@@ -1,10 +1,14 @@
 // The network file: the number that it is refused by.
+use super::header::junctions_of;
+use super::header::roads_of;
+use super::header::version_of;
+use super::roads::road_energy;
+use super::roads::road_high;
+use super::roads::road_low;
+use super::roads::road_time;
+use super::versions::Served;
 use super::versions::least_energy;
-use super::versions::net_served;
 use bytes::marked;
-use bytes::u16_at;
-use bytes::u32_at;
-use paths::energy::Energy;
 use paths::seconds::Seconds;
 ghost use mathlib.Core.Path.{_≡_};
 ghost use Prim.Native.Nat.{_+_, _*_, _≤_};
@@ -14,35 +18,35 @@ ghost use Rattle.network.specs.NetworkNumber.{recordRises, endsFit, figu
 
 // Record k stands after the one before.
 fn record_rises(net: &[u8], k: usize) -> bool
-    requires { ⌜ 16 + 8 * (k + 1) ≤ length (now net) ⌝ }
+    requires { ⌜ 24 + 8 * k ≤ length (now net) ⌝ }
     ensures { λ r. ⌜ r ≡ recordRises (now (net .entry)) k ⌝ }
 {
     if k == 0 {
         return true;
     }
-    let low_before = u16_at(net, 16 + 8 * (k - 1));
-    let low = u16_at(net, 16 + 8 * k);
+    let low_before = road_low(net, k - 1);
+    let low = road_low(net, k);
     if low_before < low {
         return true;
     }
     if low_before != low {
         return false;
     }
-    let high_before = u16_at(net, 18 + 8 * (k - 1));
-    let high = u16_at(net, 18 + 8 * k);
+    let high_before = road_high(net, k - 1);
+    let high = road_high(net, k);
     high_before < high
 }
 
 fn ends_fit(net: &[u8], k: usize) -> bool
-    requires { ⌜ 16 + 8 * (k + 1) ≤ length (now net) ⌝ }
+    requires { ⌜ 24 + 8 * k ≤ length (now net) ⌝ }
     ensures { λ r. ⌜ r ≡ endsFit (now (net .entry)) k ⌝ }
 {
-    let low = u16_at(net, 16 + 8 * k);
-    let high = u16_at(net, 18 + 8 * k);
+    let low = road_low(net, k);
+    let high = road_high(net, k);
     if low >= high {
         return false;
     }
-    let junctions = u16_at(net, 6);
+    let junctions = junctions_of(net) as usize;
     if high >= junctions {
         return false;
     }
@@ -50,22 +54,22 @@ fn ends_fit(net: &[u8], k: usize) -> bool
 }
 
 fn figures_fit(net: &[u8], k: usize) -> bool
-    requires { ⌜ 16 + 8 * (k + 1) ≤ length (now net) ⌝ }
+    requires { ⌜ 24 + 8 * k ≤ length (now net) ⌝ }
     ensures { λ r. ⌜ r ≡ figuresFit (now (net .entry)) k ⌝ }
 {
-    let time = Seconds(u16_at(net, 20 + 8 * k));
+    let time = road_time(net, k);
     let least_time = Seconds(1);
     if !least_time.at_most(time) {
         return false;
     }
-    let energy = Energy(u16_at(net, 22 + 8 * k));
-    let least = least_energy(u16_at(net, 3));
+    let energy = road_energy(net, k);
+    let least = least_energy(version_of(net));
     least.at_most(energy)
 }
 
 // 5 or 6 for record k, or 0.
 fn record_number(net: &[u8], k: usize) -> u32
-    requires { ⌜ 16 + 8 * (k + 1) ≤ length (now net) ⌝ }
+    requires { ⌜ 24 + 8 * k ≤ length (now net) ⌝ }
     ensures { λ r. ⌜ r ≡ recordNumber (now (net .entry)) k ⌝ }
 {
     if !ends_fit(net, k) {
@@ -97,20 +101,20 @@ fn sizes_fit(net: &[u8]) -> bool
     requires { ⌜ 16 ≤ length (now net) ⌝ }
     ensures { λ r. ⌜ r ≡ sizesFit (now (net .entry)) ⌝ }
 {
-    let junctions = u16_at(net, 6);
+    let junctions = junctions_of(net);
     if junctions < 1 {
         return false;
     }
     if junctions > 1024 {
         return false;
     }
-    let roads = u32_at(net, 8);
+    let roads = roads_of(net);
     roads <= 4096
 }
 
 // 1 to 4 for the header and the whole length, or 0.
-fn header_number(net: &[u8]) -> u32
-    ensures { λ r. ⌜ r ≡ headerNumber (now (net .entry)) ⌝ }
+fn header_number(net: &[u8], serves: Served) -> u32
+    ensures { λ r. ⌜ r ≡ headerNumber serves (now (net .entry)) ⌝ }
 {
     if net.len() < 16 {
         return 1;
@@ -118,13 +122,13 @@ fn header_number(net: &[u8]) -> u32
     if !marked(b'T', b'R', b'N', net) {
         return 2;
     }
-    if !net_served(u16_at(net, 3)) {
+    if !serves.includes(version_of(net)) {
         return 3;
     }
     if !sizes_fit(net) {
         return 4;
     }
-    let roads = u32_at(net, 8) as usize;
+    let roads = roads_of(net) as usize;
     if net.len() != 16 + 8 * roads {
         return 1;
     }
@@ -132,12 +136,12 @@ fn header_number(net: &[u8]) -> u32
 }
 
 // The number of a network file, 0 if it is accepted.
-pub fn net_number(net: &[u8]) -> u32
-    ensures { λ r. ⌜ r ≡ netNumber (now (net .entry)) ⌝ }
+pub fn net_number(net: &[u8], serves: Served) -> u32
+    ensures { λ r. ⌜ r ≡ netNumber serves (now (net .entry)) ⌝ }
 {
-    let refused = header_number(net);
+    let refused = header_number(net, serves);
     if refused != 0 {
         return refused;
     }
-    records_number(net, u32_at(net, 8) as usize)
+    records_number(net, roads_of(net) as usize)
 }

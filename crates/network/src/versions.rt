@@ -1,13 +1,28 @@
-// What a version asks of the two files.
+// Which versions of the two files are served, and what a version asks of them.
 use paths::energy::Energy;
 ghost use mathlib.Core.Path.{_≡_};
-ghost use Rattle.network.specs.Versions.{netServed, leastEnergy};
+ghost use Rattle.network.specs.Versions.{served, versionOne, leastEnergy};
 
-// Whether a network file of this version is served.
-pub fn net_served(version: u32) -> bool
-    ensures { λ r. ⌜ r ≡ netServed version ⌝ }
+// The versions that are served: from the first to the last.
+pub struct Served {
+    pub first: u32,
+    pub last: u32,
+}
+
+impl Served {
+    // Whether a file of this version is served.
+    pub fn includes(self, version: u32) -> bool
+        ensures { λ r. ⌜ r ≡ served self version ⌝ }
+    {
+        self.first <= version && version <= self.last
+    }
+}
+
+// Version 1 alone.
+pub fn version_one() -> Served
+    ensures { λ r. ⌜ r ≡ versionOne ⌝ }
 {
-    version == 1
+    Served { first: 1, last: 1 }
 }
 
 // The least energy of a road, and of an entry.

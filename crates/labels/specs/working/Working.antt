@@ -8,6 +8,7 @@ use Rattle.paths.specs.Route.{FirstRoute}
 use Rattle.refusals.specs.Lent.{filled}
 use Rattle.network.specs.NetworkFile.{networkOf}
 use Rattle.stored.specs.working.Formed.{Tables}
+use Rattle.network.specs.Versions.{versionOne}
 use Rattle.network.specs.NetworkNumber.{netNumber}
 use Rattle.stored.specs.Right.{EveryListRight}
 use Rattle.files.specs.LabelForm.{formBeside}
@@ -16,7 +17,7 @@ use Rattle.labels.specs.Batch.{TripleAnswered}
 
 -- A network and labels that pass every test
 pub record Accepted (net s : List ℕ) : Type 0 where
-  pub network-passes : netNumber net ≡ 0
+  pub network-passes : netNumber versionOne net ≡ 0
   pub form-passes : formBeside net s ≡ 0
   pub every-list-right : EveryListRight net s
 

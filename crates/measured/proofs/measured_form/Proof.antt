@@ -2,23 +2,29 @@
 use mathlib.Core.Path.{refl}
 use native.Mathlib.Omega.{arith}
 use borrow.Author.Needs.{needs}
+use Rattle.network.specs.Versions.{versionOne}
 use Rattle.network.proofs.Accepted.{network-fits}
 use Rattle.measured.specs.working.FormNumber.{network-refused, network-passed}
 use Rattle.measured.proofs.measured_form.Statement.{statement}
 use Rattle.measured.proofs.measured_form.Tie as tie
 
+version-one-requires : tie.Need-version-one-requires
+version-one-requires c κs = search needs
+
 net-number-requires : tie.Need-net-number-requires
 net-number-requires c κs = search needs
 
 returns : tie.Need-returns
-returns c = let number = c .before .net-number .ensures in network-refused (λ z. omega (arith, number, z)) number
+returns c =
+    let number = rw (c .before .before .version-one .ensures) at (c .before .net-number .ensures) in
+    network-refused (λ z. omega (arith, number, z)) number
 
 form-beside-requires : tie.Need-form-beside-requires
-form-beside-requires c κs = (network-fits _ (cc), (refl, refl))
+form-beside-requires c κs = (network-fits versionOne _ (cc), (refl, refl))
 
 returns-2 : tie.Need-returns-2
 returns-2 c = network-passed (cc) (c .form-beside .ensures .read .number)
 
 pub measured-form-spec : {M : Type 1} → statement M
 measured-form-spec =
-    tie.close (tie.spec net-number-requires returns form-beside-requires returns-2)
+    tie.close (tie.spec version-one-requires net-number-requires returns form-beside-requires returns-2)

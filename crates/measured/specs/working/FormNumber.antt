@@ -2,10 +2,11 @@
 use mathlib.Core.Path.{_≡_}
 use mathlib.Core.List.{List}
 use Prim.Native.Nat.{ℕ}
+use Rattle.network.specs.Versions.{versionOne}
 use Rattle.network.specs.NetworkNumber.{netNumber}
 use Rattle.files.specs.LabelForm.{formBeside}
 
 -- The number of the network or, where that is 0, of the labels beside it
 pub data FormNumber (net s : List ℕ) (number : ℕ) : Type 0 where
-  network-refused : (netNumber net ≡ 0 → ⊥) → number ≡ netNumber net → FormNumber net s number
-  network-passed : netNumber net ≡ 0 → number ≡ formBeside net s → FormNumber net s number
+  network-refused : (netNumber versionOne net ≡ 0 → ⊥) → number ≡ netNumber versionOne net → FormNumber net s number
+  network-passed : netNumber versionOne net ≡ 0 → number ≡ formBeside net s → FormNumber net s number

@@ -13,11 +13,11 @@ marked-requires c κs = search needs
 returns-2 : tie.Need-returns-2
 returns-2 c = search (header-unmarked)
 
-u16-at-requires : tie.Need-u16-at-requires
-u16-at-requires c κs = search needs
+version-of-requires : tie.Need-version-of-requires
+version-of-requires c κs = search needs
 
-net-served-requires : tie.Need-net-served-requires
-net-served-requires c κs = search needs
+includes-requires : tie.Need-includes-requires
+includes-requires c κs = search needs
 
 returns-3 : tie.Need-returns-3
 returns-3 c = search (header-unserved)
@@ -28,8 +28,8 @@ sizes-fit-requires c κs = search needs
 returns-4 : tie.Need-returns-4
 returns-4 c = search (header-sizes)
 
-u32-at-requires : tie.Need-u32-at-requires
-u32-at-requires c κs = search needs
+roads-of-requires : tie.Need-roads-of-requires
+roads-of-requires c κs = search needs
 
 cast-roads : tie.Need-cast-roads
 cast-roads c = search needs
@@ -53,12 +53,12 @@ header-number-spec =
     returns
     marked-requires
     returns-2
-    u16-at-requires
-    net-served-requires
+    version-of-requires
+    includes-requires
     returns-3
     sizes-fit-requires
     returns-4
-    u32-at-requires
+    roads-of-requires
     cast-roads
     mul-if5
     add-if5

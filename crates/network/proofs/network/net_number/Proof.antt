@@ -10,8 +10,8 @@ header-number-requires c κs = search needs
 returns : tie.Need-returns
 returns c = search (refused-by-header)
 
-u32-at-requires : tie.Need-u32-at-requires
-u32-at-requires c κs = search (roads-readable)
+roads-of-requires : tie.Need-roads-of-requires
+roads-of-requires c κs = search (roads-readable)
 
 cast-records-number : tie.Need-cast-records-number
 cast-records-number c = search needs
@@ -28,7 +28,7 @@ net-number-spec =
     (tie.spec
     header-number-requires
     returns
-    u32-at-requires
+    roads-of-requires
     cast-records-number
     records-number-requires
     returns-2)
