@@ -1,9 +1,9 @@
 -- A network file has number 0 exactly if it is marked, of a version that is served, and fits.
 -- In this order: a record, and back; the whole file, and back.
-use mathlib.Core.Path.{_≡_, refl, sym, _∙_}
+use mathlib.Core.Path.{_≡_, refl}
 use mathlib.Core.Bool.{true, _&&_}
 use mathlib.Core.List.{List}
-use Prim.Native.Nat.{ℕ, zero, suc, _+_, _*_, _≤_, _<_}
+use Prim.Native.Nat.{ℕ, zero, suc, _≤_, _<_}
 use native.Mathlib.Omega.{arith}
 use lib.Dec.{leb, ltb}
 use lib.ListN.{length}
@@ -80,7 +80,7 @@ decided-none (suc first) then e = absurd (omega arith)
 pub network-fits : (serves : Served) (net : List ℕ) → netNumber serves net ≡ 0 → NetworkFits net
 unfolding netNumber
 network-fits serves net passes =
-    let parts = decided-none (headerNumber serves net) _ (passes) in
+    let parts = decided-none (headerNumber serves net) _ passes in
     let header = header-fits serves net (parts .0) in
     let each : (k : ℕ) → k < roadsOf net → RecordFits net k = λ k h. record-fits net k (no-fault (recordNumber net) (roadsOf net) (parts .1) (omega arith) (omega arith)) in
     record {

@@ -8,7 +8,7 @@ use native.Mathlib.Omega.{arith}
 use lib.Dec.{leb, ltb, eqb}
 use lib.ListN.{length}
 use borrow.Author.Tests.{lt-ltb, le-ltb, le-leb, lt-leb, eq-eqb, ne-eqb, not-true, not-false, leb-true, eqb-true}
-use Rattle.refusals.specs.Order.{unless, decided, firstFault}
+use Rattle.refusals.specs.Order.{unless, firstFault}
 use Rattle.refusals.proofs.Order.{unless-passed, and-both}
 use Rattle.bytes.specs.Bytes.{marked}
 use Rattle.network.specs.declared.versions.Served.{Served}
@@ -163,7 +163,9 @@ module _ (serves : Served) (net : List ℕ) where
           pub header-passes : length net ≡ 16 + 8 * roads → 0 ≡ headerNumber serves net
           header-passes holds = rw (after-served, not-false sizes sizes-fit, ← roads-is, eq-eqb (length net) (16 + 8 * roads) holds)
 
--- What a header that passed says of sizes
+-- ---- What a header that passed says
+
+-- The sizes are within their limits, and the file is whole
 pub record HeaderFits (net : List ℕ) : Type 0 where
   pub some-junction : 1 ≤ junctionsOf net
   pub few-junctions : junctionsOf net ≤ 1024

@@ -1,5 +1,4 @@
--- What a version asks of the two files, and which versions are served. Document 01 has version 1 alone; a further version is a
--- further case here, and `proofs/VersionTable.antt` pins each row.
+-- Which versions of the two files are served, and what each asks; document 01 has version 1 alone. `proofs/VersionTable.antt` pins the rows.
 use mathlib.Core.Bool.{Bool, _&&_}
 use Prim.Native.Nat.{ℕ}
 use lib.Dec.{leb, eqb}

@@ -2,7 +2,7 @@
 use bytes::u16_at;
 use bytes::u32_at;
 ghost use mathlib.Core.Path.{_≡_};
-ghost use Prim.Native.Nat.{_≤_, _<_};
+ghost use Prim.Native.Nat.{_≤_};
 ghost use lib.ListN.{length};
 ghost use Rattle.bytes.specs.working.Reads.{Read16};
 ghost use Rattle.network.specs.NetworkFile.{versionOf, junctionsOf, roadsOf, identityOf};
