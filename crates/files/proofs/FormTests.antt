@@ -9,6 +9,7 @@ use lib.Dec.{leb, eqb}
 use lib.ListN.{length}
 use borrow.Author.Tests.{le-leb, lt-leb, eq-eqb, ne-eqb, not-true, not-false}
 use Rattle.refusals.specs.Order.{unless, decided, every}
+use Rattle.refusals.proofs.Order.{decided-more}
 use Rattle.bytes.specs.Bytes.{marked}
 use Rattle.network.specs.Versions.{labelsServed}
 use Rattle.bytes.specs.working.Reads.{ReadU16}
@@ -17,14 +18,12 @@ use Rattle.network.specs.working.Fits.{NetworkFits}
 use Rattle.forest.specs.LabelFile.{entriesOf}
 use Rattle.forest.specs.Forest.{roadJoins}
 use Rattle.stored.specs.ListForm.{mostBytes}
-use Rattle.files.specs.LabelForm.{labelForm, sameNetwork, formBeside, formAlone}
+use Rattle.files.specs.LabelForm.{headerForm, parentsForm, listsForm, labelForm, sameNetwork, formBeside, junctionsFit, formAlone}
 use Rattle.forest.specs.working.Fits.{ParentsFit, DepthsFilled}
 use Rattle.forest.specs.working.ParentsRead.{ParentsTested}
 use Rattle.stored.specs.working.Scanned.{Scanned}
-use Rattle.files.specs.working.FormRead.{headerForm, parentsForm, listsForm, junctionsFit, ParentsNumbered, ListsNumbered, FormRead, AloneRead, BesideRead}
-use Rattle.stored.proofs.Faults.{decided-fault}
+use Rattle.files.specs.working.FormRead.{ParentsNumbered, ListsNumbered, FormRead, AloneRead, BesideRead}
 use Rattle.files.proofs.FormLaws.{
-  label-parts,
   header-fits,
   parents-form-fit,
   junctions-fit-few,
@@ -151,7 +150,7 @@ module _ (s : List ℕ) {starts : List ℕ} {number at total : ℕ} (scanned : S
   -- 11 or 17 among the lists
   pub lists-fault : (number ≡ 0 → ⊥) → ListsNumbered s starts number
   unfolding listsForm
-  lists-fault fails = lists-numbered (rw (← scanned .is) (sym (decided-fault _ fails))) fails
+  lists-fault fails = lists-numbered (rw (← scanned .is) (sym (decided-more _ fails))) fails
 
   module _ (passes : number ≡ 0) where
     -- what is left after the lists
@@ -200,12 +199,14 @@ module _ (s : List ℕ) (fits joins : Bool) {header : ℕ} (header-is : header �
   pub read-header :
       {depths starts : List ℕ} → (header ≡ 0 → ⊥) → length depths ≡ 1024 → length starts ≡ 1024 →
       FormRead s depths starts (labelForm fits joins s) header
-  read-header fails = refused (rw (label-parts fits joins s, ← header-is) (sym (decided-fault _ fails))) fails
+  unfolding labelForm
+  read-header fails = refused (rw (← header-is) (sym (decided-more _ fails))) fails
 
   module _ (header-passes : header ≡ 0) {fit : Bool} (fit-is : fit ≡ fits) where
     -- what is left after the header
     after-header : labelForm fits joins s ≡ unless fit 14 (decided (parentsForm s) (unless joins 16 (listsForm s)))
-    after-header = rw (label-parts fits joins s, ← header-is, header-passes, ← fit-is)
+    unfolding labelForm
+    after-header = rw (← header-is, header-passes, ← fit-is)
 
     -- 14
     pub read-misfit :
@@ -218,7 +219,7 @@ module _ (s : List ℕ) (fits joins : Bool) {header : ℕ} (header-is : header �
       pub read-parents : {starts : List ℕ} → (parents ≡ 0 → ⊥) → length starts ≡ 1024 → FormRead s depths starts (labelForm fits joins s) parents
       read-parents fails =
           refused
-          (rw (after-header, not-false fit holds, ← numbered .number) (sym (decided-fault _ fails)))
+          (rw (after-header, not-false fit holds, ← numbered .number) (sym (decided-more _ fails)))
           fails
           (numbered .places)
 

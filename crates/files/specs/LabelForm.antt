@@ -9,34 +9,58 @@ use Rattle.bytes.specs.Bytes.{marked}
 use Rattle.network.specs.Versions.{labelsServed}
 use Rattle.network.specs.NetworkFile.{versionOf, junctionsOf, roadsOf, identityOf}
 use Rattle.forest.specs.LabelFile.{entriesOf}
-use Rattle.forest.specs.Forest.{parentFits, chainEnds, roadJoins}
+use Rattle.forest.specs.Forest.{parentsPass, roadJoins}
 use Rattle.stored.specs.Stored.{listsOf, placeOf, entriesBefore}
 use Rattle.stored.specs.ListForm.{mostBytes, listsNumber}
 
--- "Labels: 11 (under 16 or over the most), 12, 13, 14, 11 (parents cut off), 15, 16, then counts and numbers [...]. After the
--- last list: bytes left 11, wrong E 17". What 14 and 16 ask depends on whether there is a network.
+-- ---- The parts, between which 14 and 16 stand
+
+-- "11 (under 16 or over the most), 12, 13"
+unfoldable pub headerForm : List ℕ → ℕ
+headerForm labels =
+    unless (leb 16 (length labels) && leb (length labels) mostBytes) 11
+    (unless (marked 84 76 66 labels) 12
+    (unless (labelsServed (versionOf labels)) 13
+    0))
+
+-- "11 (parents cut off), 15"
+unfoldable pub parentsForm : List ℕ → ℕ
+parentsForm labels =
+    unless (leb (16 + 2 * junctionsOf labels) (length labels)) 11
+    (unless (parentsPass labels) 15
+    0)
+
+-- "then counts and numbers [...]. After the last list: bytes left 11, wrong E 17"
+unfoldable pub listsForm : List ℕ → ℕ
+listsForm labels =
+    decided (listsNumber labels)
+    (unless (eqb (placeOf labels (listsOf labels)) (length labels)) 11
+    (unless (eqb (entriesBefore labels (listsOf labels)) (entriesOf labels)) 17
+    0))
+
+-- ---- The whole
+
+-- "Labels: 11 (under 16 or over the most), 12, 13, 14, 11 (parents cut off), 15, 16, then counts and numbers". What 14 and 16 ask
+-- depends on whether there is a network.
 unfoldable pub labelForm : Bool → Bool → List ℕ → ℕ
-labelForm fits joins s =
-    unless (leb 16 (length s) && leb (length s) mostBytes) 11
-    (unless (marked 84 76 66 s) 12
-    (unless (labelsServed (versionOf s)) 13
+labelForm fits joins labels =
+    decided (headerForm labels)
     (unless fits 14
-    (unless (leb (16 + 2 * junctionsOf s) (length s)) 11
-    (unless (every (parentFits s) (junctionsOf s) && every (chainEnds s) (junctionsOf s)) 15
+    (decided (parentsForm labels)
     (unless joins 16
-    (decided (listsNumber s)
-    (unless (eqb (placeOf s (listsOf s)) (length s)) 11
-    (unless (eqb (entriesBefore s (listsOf s)) (entriesOf s)) 17
-    0)))))))))
+    (listsForm labels))))
 
 -- "14 n or identity differs from the network"
 unfoldable pub sameNetwork : List ℕ → List ℕ → Bool
-sameNetwork net s = eqb (junctionsOf s) (junctionsOf net) && eqb (identityOf s) (identityOf net)
+sameNetwork net labels = eqb (junctionsOf labels) (junctionsOf net) && eqb (identityOf labels) (identityOf net)
 
--- The form of labels beside a network that passed
+-- The number of labels beside a network that passed
 unfoldable pub formBeside : List ℕ → List ℕ → ℕ
-formBeside net s = labelForm (sameNetwork net s) (every (roadJoins net s) (roadsOf net)) s
+formBeside net labels = labelForm (sameNetwork net labels) (every (roadJoins net labels) (roadsOf net)) labels
 
 -- "A call that has labels but no network takes n from them and gives 14 for n outside 1 to 1,024."
+abbrev pub junctionsFit : List ℕ → Bool
+junctionsFit labels = leb 1 (junctionsOf labels) && leb (junctionsOf labels) 1024
+
 unfoldable pub formAlone : List ℕ → ℕ
-formAlone s = labelForm (leb 1 (junctionsOf s) && leb (junctionsOf s) 1024) true s
+formAlone labels = labelForm (junctionsFit labels) true labels

@@ -11,12 +11,12 @@ use Rattle.stored.specs.Stored.{listPlace}
 use Rattle.files.specs.LabelForm.{formAlone}
 
 -- What must hold for a list to be handed out
-pub record Shows (s : List ℕ) (v u : ℕ) : Type 0 where
-  pub formed : formAlone s ≡ 0
-  pub junction : v < junctionsOf s
-  pub ancestor-junction : u < junctionsOf s
-  pub proper-ancestor : Above (parentsOf s) u v
+pub record Shows (labels : List ℕ) (v u : ℕ) : Type 0 where
+  pub formed : formAlone labels ≡ 0
+  pub junction : v < junctionsOf labels
+  pub ancestor-junction : u < junctionsOf labels
+  pub proper-ancestor : Above (parentsOf labels) u v
 
-pub data Shown (s : List ℕ) (v u : ℕ) (part : List ℕ) : Type 0 where
-  nothing : (Shows s v u → ⊥) → part ≡ [] → Shown s v u part
-  bytes : Shows s v u → part ≡ take (listEnd s (listPlace s v u) - listPlace s v u) (drop (listPlace s v u) s) → Shown s v u part
+pub data Shown (labels : List ℕ) (v u : ℕ) (part : List ℕ) : Type 0 where
+  nothing : (Shows labels v u → ⊥) → part ≡ [] → Shown labels v u part
+  bytes : Shows labels v u → part ≡ take (listEnd labels (listPlace labels v u) - listPlace labels v u) (drop (listPlace labels v u) labels) → Shown labels v u part

@@ -12,9 +12,9 @@ ghost use Rattle.network.specs.Versions.{labelsServed};
 ghost use Rattle.network.specs.NetworkFile.{junctionsOf};
 ghost use Rattle.network.specs.working.Fits.{NetworkFits};
 ghost use Rattle.stored.specs.ListForm.{mostBytes};
-ghost use Rattle.files.specs.LabelForm.{sameNetwork};
+ghost use Rattle.files.specs.LabelForm.{headerForm, sameNetwork, junctionsFit};
 ghost use Rattle.forest.specs.working.Fits.{ParentsFit, DepthsFilled};
-ghost use Rattle.files.specs.working.FormRead.{headerForm, junctionsFit, ParentsNumbered, ListsNumbered, AloneRead, BesideRead};
+ghost use Rattle.files.specs.working.FormRead.{ParentsNumbered, ListsNumbered, AloneRead, BesideRead};
 
 const MOST_BYTES: usize = 4194304;
 

@@ -14,9 +14,9 @@ use Rattle.refusals.specs.Order.{every}
 use Rattle.refusals.proofs.Order.{and-both, every-holds}
 use Rattle.network.specs.NetworkFile.{junctionsOf}
 use Rattle.forest.specs.LabelFile.{parentAt, noParent}
-use Rattle.forest.specs.Forest.{stepsUp, depthOf, ancestorOf, parentFits, chainEnds}
+use Rattle.forest.specs.Forest.{stepsUp, depthOf, ancestorOf, parentFits, chainEnds, parentsPass}
 use Rattle.forest.specs.working.Fits.{ParentsFit}
-use Rattle.forest.specs.working.ParentsRead.{ParentsStand, parentsPass}
+use Rattle.forest.specs.working.ParentsRead.{ParentsStand}
 
 -- ---- Roots and parents
 

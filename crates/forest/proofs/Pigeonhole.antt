@@ -17,8 +17,7 @@ use Rattle.refusals.specs.Order.{every}
 use Rattle.refusals.proofs.Order.{and-true, every-all}
 use Rattle.network.specs.NetworkFile.{junctionsOf}
 use Rattle.forest.specs.LabelFile.{parentAt, parentsOf}
-use Rattle.forest.specs.Forest.{stepsUp, depthOf, parentFits, chainEnds}
-use Rattle.forest.specs.working.ParentsRead.{parentsPass}
+use Rattle.forest.specs.Forest.{stepsUp, depthOf, parentFits, chainEnds, parentsPass}
 use Rattle.forest.proofs.Chains.{IsRoot, AllFit, AllEnd, parent-on-map, steps-none, steps-root, steps-parent, passed-fits, passed-ends}
 use Rattle.forest.proofs.Forest.{parents-child, above-shallower}
 

@@ -9,7 +9,7 @@ use lib.Dec.{leb, ltb}
 use lib.ListN.{length}
 use borrow.Author.Tests.{ltb-true, lt-ltb, leb-true, le-leb, eq-eqb}
 use Rattle.refusals.specs.Order.{decided}
-use Rattle.refusals.proofs.Order.{unless-passed, and-both, no-fault, all-pass}
+use Rattle.refusals.proofs.Order.{unless-passed, decided-none, and-both, no-fault, all-pass}
 use Rattle.bytes.specs.Bytes.{marked}
 use Rattle.network.specs.declared.versions.Served.{Served}
 use Rattle.network.specs.Versions.{served, leastEnergy}
@@ -70,11 +70,6 @@ record-back net k fits =
     )
 
 -- ---- The whole file
-
--- two numbers in turn that give 0 are both 0
-decided-none : (first then : ℕ) → decided first then ≡ 0 → (first ≡ 0) × (then ≡ 0)
-decided-none zero then e = (refl, e)
-decided-none (suc first) then e = absurd (omega arith)
 
 -- an accepted network fits
 pub network-fits : (serves : Served) (net : List ℕ) → netNumber serves net ≡ 0 → NetworkFits net

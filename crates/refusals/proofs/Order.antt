@@ -75,6 +75,11 @@ pub decided-more : {number : ℕ} (next : ℕ) → (number ≡ 0 → ⊥) → de
 decided-more {number = zero} next h = absurd (h refl)
 decided-more {number = suc number} next h = refl
 
+-- two numbers in turn that give 0 are both 0
+pub decided-none : (first then : ℕ) → decided first then ≡ 0 → (first ≡ 0) × (then ≡ 0)
+decided-none zero then e = (refl, e)
+decided-none (suc first) then e = absurd (omega arith)
+
 module _ (fault : ℕ → ℕ) where
   -- what is left after k of n tests, as a loop meets it
   abbrev pub faultsFrom : ℕ → ℕ → ℕ

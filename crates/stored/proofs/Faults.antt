@@ -4,12 +4,7 @@ use Prim.Native.Nat.{ℕ, zero, suc, _+_, _-_, _≤_, _<_}
 use native.Mathlib.Omega.{arith}
 use native.Mathlib.Nat.{add-zero, zero-add, add-suc, suc-add}
 use Rattle.refusals.specs.Order.{decided, firstFault}
-use Rattle.refusals.proofs.Order.{faultsFrom}
-
--- a fault decides
-pub decided-fault : {number : ℕ} (next : ℕ) → (number ≡ 0 → ⊥) → decided number next ≡ number
-decided-fault {number = zero} next apart = absurd (apart refl)
-decided-fault {number = suc number} next apart = refl
+use Rattle.refusals.proofs.Order.{decided-more, faultsFrom}
 
 module _ (fault : ℕ → ℕ) where
   -- the first m tests decide, or those behind them
@@ -28,7 +23,7 @@ module _ (fault : ℕ → ℕ) where
 
   -- of n tests the first m have a fault: it decides
   pub fault-among : {m n number : ℕ} → m ≤ n → number ≡ firstFault fault 0 m → (number ≡ 0 → ⊥) → number ≡ firstFault fault 0 n
-  fault-among {m} {n} {number} h e apart = sym (ap (firstFault fault 0) count ∙ faults-joined m 0 (n - m) ∙ decided-fault _ (λ z. apart (e ∙ z)) ∙ sym e)
+  fault-among {m} {n} {number} h e apart = sym (ap (firstFault fault 0) count ∙ faults-joined m 0 (n - m) ∙ decided-more _ (λ z. apart (e ∙ z)) ∙ sym e)
     where
       count : n ≡ m + (n - m)
       count = omega arith

@@ -8,7 +8,7 @@ use native.Mathlib.Decide.{ℕ-discrete}
 use lib.ListN.{length, getD, set, length-set}
 use lib.Seq.{getD-set-same, getD-set-other}
 use Rattle.refusals.specs.Order.{decided, firstFault}
-use Rattle.refusals.proofs.Order.{faultsFrom, fault-next, fault-here, fault-end}
+use Rattle.refusals.proofs.Order.{decided-more, faultsFrom, fault-next, fault-here, fault-end}
 use Rattle.network.specs.NetworkFile.{junctionsOf}
 use Rattle.forest.specs.LabelFile.{countAt, listEnd}
 use Rattle.forest.specs.Forest.{depthOf}
@@ -18,7 +18,7 @@ use Rattle.stored.specs.ListForm.{listNumber, listsNumber}
 use Rattle.forest.specs.working.Fits.{ParentsFit, DepthsFilled}
 use Rattle.stored.specs.working.Formed.{StartsFilled}
 use Rattle.stored.specs.working.Scanned.{further, ScannedSome, PassedSome, Scanned}
-use Rattle.stored.proofs.Faults.{decided-fault, faults-joined, faults-moved, fault-behind}
+use Rattle.stored.proofs.Faults.{faults-joined, faults-moved, fault-behind}
 use Rattle.stored.proofs.Lists.{list-fits}
 use Rattle.stored.proofs.Places.{list-takes, further-none, further-next, further-add, further-later, further-place, listsBefore-next, lists-of-junction, place-counts}
 
@@ -188,7 +188,7 @@ module _ (s : List ℕ) where
     pub all-fault : (number ≡ 0 → ⊥) → Scanned s (set starts v at) number behind sum
     all-fault apart =
         record {
-          is = sym (split ∙ decided-fault _ apart);
+          is = sym (split ∙ decided-more _ apart);
           places = length-set starts v at ∙ passed .places;
           behind = λ z. absurd (apart z);
           sum = λ z. absurd (apart z);

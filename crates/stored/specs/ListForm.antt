@@ -22,34 +22,34 @@ mostFigure = 67042305
 
 -- "energy strictly rising and time strictly falling"; the first entry of a list has none before it
 abbrev pub timeFollows : List ℕ → ℕ → ℕ → Bool
-timeFollows s at zero = true
-timeFollows s at (suc j) = ltb (timeAt s at (suc j)) (timeAt s at j)
+timeFollows labels at zero = true
+timeFollows labels at (suc j) = ltb (timeAt labels at (suc j)) (timeAt labels at j)
 
 abbrev pub energyFollows : List ℕ → ℕ → ℕ → Bool
-energyFollows s at zero = true
-energyFollows s at (suc j) = ltb (energyAt s at j) (energyAt s at (suc j))
+energyFollows labels at zero = true
+energyFollows labels at (suc j) = ltb (energyAt labels at j) (energyAt labels at (suc j))
 
 unfoldable pub timeFits : List ℕ → ℕ → ℕ → Bool
-timeFits s at j = leb 1 (timeAt s at j) && leb (timeAt s at j) mostFigure && timeFollows s at j
+timeFits labels at j = leb 1 (timeAt labels at j) && leb (timeAt labels at j) mostFigure && timeFollows labels at j
 
 unfoldable pub energyFits : List ℕ → ℕ → ℕ → Bool
-energyFits s at j =
-    leb (leastEnergy (versionOf s)) (energyAt s at j) && leb (energyAt s at j) mostFigure && energyFollows s at j
+energyFits labels at j =
+    leb (leastEnergy (versionOf labels)) (energyAt labels at j) && leb (energyAt labels at j) mostFigure && energyFollows labels at j
 
 -- "counts and numbers one by one in byte order, the first fault deciding: one cut off gives 11, one that breaks a rule 17"
 unfoldable pub entryNumber : List ℕ → ℕ → ℕ → ℕ
-entryNumber s at j =
-    unless (leb (at + 6 + 8 * j) (length s)) 11
-    (unless (timeFits s at j) 17
-    (unless (leb (at + 10 + 8 * j) (length s)) 11
-    (unless (energyFits s at j) 17
+entryNumber labels at j =
+    unless (leb (at + 6 + 8 * j) (length labels)) 11
+    (unless (timeFits labels at j) 17
+    (unless (leb (at + 10 + 8 * j) (length labels)) 11
+    (unless (energyFits labels at j) 17
     0)))
 
 unfoldable pub listNumber : List ℕ → ℕ → ℕ
-listNumber s at =
-    unless (leb (at + 2) (length s)) 11
-    (unless (leb (countAt s at) mostCount) 17
-    (firstFault (entryNumber s at) 0 (countAt s at)))
+listNumber labels at =
+    unless (leb (at + 2) (length labels)) 11
+    (unless (leb (countAt labels at) mostCount) 17
+    (firstFault (entryNumber labels at) 0 (countAt labels at)))
 
 unfoldable pub listsNumber : List ℕ → ℕ
-listsNumber s = firstFault (λ g. listNumber s (placeOf s g)) 0 (listsOf s)
+listsNumber labels = firstFault (λ g. listNumber labels (placeOf labels g)) 0 (listsOf labels)

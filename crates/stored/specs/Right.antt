@@ -9,5 +9,5 @@ use Rattle.forest.specs.LabelFile.{parentsOf}
 use Rattle.stored.specs.Stored.{stored}
 
 -- Every stored list is the trade-off list of its junction and that junction's proper ancestor
-pub record EveryListRight (net s : List ℕ) : Type 0 where
-  pub right : {v u : ℕ} → Above (parentsOf s) u v → IsTradeOff (networkOf net) v u (stored s v u)
+pub record EveryListRight (net labels : List ℕ) : Type 0 where
+  pub right : {v u : ℕ} → Above (parentsOf labels) u v → IsTradeOff (networkOf net) v u (stored labels v u)

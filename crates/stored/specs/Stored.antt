@@ -9,25 +9,25 @@ use Rattle.forest.specs.Forest.{depthOf}
 
 -- How many lists the junctions below v have: one for each proper ancestor
 unfoldable pub listsBefore : List ℕ → ℕ → ℕ
-listsBefore s zero = 0
-listsBefore s (suc v) = listsBefore s v + depthOf s v
+listsBefore labels zero = 0
+listsBefore labels (suc v) = listsBefore labels v + depthOf labels v
 
 abbrev pub listsOf : List ℕ → ℕ
-listsOf s = listsBefore s (junctionsOf s)
+listsOf labels = listsBefore labels (junctionsOf labels)
 
 -- The byte where list number g starts: the lists stand one after another behind the parents
 unfoldable pub placeOf : List ℕ → ℕ → ℕ
-placeOf s zero = 16 + 2 * junctionsOf s
-placeOf s (suc g) = listEnd s (placeOf s g)
+placeOf labels zero = 16 + 2 * junctionsOf labels
+placeOf labels (suc g) = listEnd labels (placeOf labels g)
 
 -- The byte where the list of v and its proper ancestor u starts
 unfoldable pub listPlace : List ℕ → ℕ → ℕ → ℕ
-listPlace s v u = placeOf s (listsBefore s v + (depthOf s v - depthOf s u - 1))
+listPlace labels v u = placeOf labels (listsBefore labels v + (depthOf labels v - depthOf labels u - 1))
 
 -- How many entries the first g lists have
 unfoldable pub entriesBefore : List ℕ → ℕ → ℕ
-entriesBefore s zero = 0
-entriesBefore s (suc g) = entriesBefore s g + countAt s (placeOf s g)
+entriesBefore labels zero = 0
+entriesBefore labels (suc g) = entriesBefore labels g + countAt labels (placeOf labels g)
 
 -- The numbers f 0, f 1, …, as many as n
 unfoldable pub tabulate : {A : Type 0} → (ℕ → A) → ℕ → List A
@@ -36,8 +36,8 @@ tabulate f (suc n) = f 0 ∷ tabulate (λ i. f (suc i)) n
 
 -- The entries of the list at byte `at`
 abbrev pub listAt : List ℕ → ℕ → List (weights energy .Figure)
-listAt s at = tabulate (λ j. pair (timeAt s at j) (energyAt s at j)) (countAt s at)
+listAt labels at = tabulate (λ j. pair (timeAt labels at j) (energyAt labels at j)) (countAt labels at)
 
 -- The stored list of v and its proper ancestor u
 unfoldable pub stored : List ℕ → ℕ → ℕ → List (weights energy .Figure)
-stored s v u = listAt s (listPlace s v u)
+stored labels v u = listAt labels (listPlace labels v u)

@@ -10,17 +10,17 @@ use Rattle.stored.specs.Stored.{listPlace}
 use Rattle.files.specs.Shown.{Shows}
 
 -- r says whether u is a proper ancestor of v
-pub record AboveTested (s : List ℕ) (u v : ℕ) (r : Bool) : Type 0 where
-  pub yes! : r ≡ true → Above (parentsOf s) u v
-  pub no! : r ≡ false → Above (parentsOf s) u v → ⊥
+pub record AboveTested (labels : List ℕ) (u v : ℕ) (r : Bool) : Type 0 where
+  pub yes! : r ≡ true → Above (parentsOf labels) u v
+  pub no! : r ≡ false → Above (parentsOf labels) u v → ⊥
 
 -- The bytes from `start` up to `end` are the list that is handed out, or none
-pub data Spans (s : List ℕ) (v u start end : ℕ) : Type 0 where
-  none : (Shows s v u → ⊥) → start ≡ 0 → end ≡ 0 → Spans s v u start end
-  list : Shows s v u → start ≡ listPlace s v u → end ≡ listEnd s (listPlace s v u) → Spans s v u start end
+pub data Spans (labels : List ℕ) (v u start end : ℕ) : Type 0 where
+  none : (Shows labels v u → ⊥) → start ≡ 0 → end ≡ 0 → Spans labels v u start end
+  list : Shows labels v u → start ≡ listPlace labels v u → end ≡ listEnd labels (listPlace labels v u) → Spans labels v u start end
 
 -- They stand in the file
-pub record SpanFound (s : List ℕ) (v u start end : ℕ) : Type 0 where
-  pub spans : Spans s v u start end
+pub record SpanFound (labels : List ℕ) (v u start end : ℕ) : Type 0 where
+  pub spans : Spans labels v u start end
   pub rises : start ≤ end
-  pub inside : end ≤ length s
+  pub inside : end ≤ length labels

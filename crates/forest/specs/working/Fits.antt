@@ -8,13 +8,13 @@ use Rattle.network.specs.NetworkFile.{junctionsOf}
 use Rattle.forest.specs.Forest.{depthOf, parentFits}
 
 -- Parents that passed 15
-pub record ParentsFit (s : List ℕ) : Type 0 where
-  pub few-junctions : junctionsOf s ≤ 1024
-  pub inside : 16 + 2 * junctionsOf s ≤ length s
-  pub fits : (v : ℕ) → v < junctionsOf s → parentFits s v ≡ true
-  pub ends : (v : ℕ) → v < junctionsOf s → depthOf s v < junctionsOf s
+pub record ParentsFit (labels : List ℕ) : Type 0 where
+  pub few-junctions : junctionsOf labels ≤ 1024
+  pub inside : 16 + 2 * junctionsOf labels ≤ length labels
+  pub fits : (v : ℕ) → v < junctionsOf labels → parentFits labels v ≡ true
+  pub ends : (v : ℕ) → v < junctionsOf labels → depthOf labels v < junctionsOf labels
 
 -- The depths of the junctions, worked out once per call
-pub record DepthsFilled (s depths : List ℕ) : Type 0 where
+pub record DepthsFilled (labels depths : List ℕ) : Type 0 where
   pub places : length depths ≡ 1024
-  pub depth : (v : ℕ) → v < junctionsOf s → getD depths v 0 ≡ depthOf s v
+  pub depth : (v : ℕ) → v < junctionsOf labels → getD depths v 0 ≡ depthOf labels v

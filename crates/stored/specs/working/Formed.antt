@@ -17,30 +17,30 @@ use Rattle.stored.specs.ListForm.{mostBytes, mostCount, mostFigure}
 
 -- The byte where the lists of v start, or would
 abbrev pub startOf : List ℕ → ℕ → ℕ
-startOf s v = placeOf s (listsBefore s v)
+startOf labels v = placeOf labels (listsBefore labels v)
 
 -- A list that stands whole in the file and keeps the rules of 17
-pub record ListFits (s : List ℕ) (at : ℕ) : Type 0 where
-  pub short : countAt s at ≤ mostCount
-  pub inside : listEnd s at ≤ length s
-  pub time-fits : (j : ℕ) → j < countAt s at → (1 ≤ timeAt s at j) × (timeAt s at j ≤ mostFigure)
-  pub energy-fits : (j : ℕ) → j < countAt s at → (leastEnergy (versionOf s) ≤ energyAt s at j) × (energyAt s at j ≤ mostFigure)
-  pub time-falls : (j : ℕ) → suc j < countAt s at → timeAt s at (suc j) < timeAt s at j
-  pub energy-rises : (j : ℕ) → suc j < countAt s at → energyAt s at j < energyAt s at (suc j)
+pub record ListFits (labels : List ℕ) (at : ℕ) : Type 0 where
+  pub short : countAt labels at ≤ mostCount
+  pub inside : listEnd labels at ≤ length labels
+  pub time-fits : (j : ℕ) → j < countAt labels at → (1 ≤ timeAt labels at j) × (timeAt labels at j ≤ mostFigure)
+  pub energy-fits : (j : ℕ) → j < countAt labels at → (leastEnergy (versionOf labels) ≤ energyAt labels at j) × (energyAt labels at j ≤ mostFigure)
+  pub time-falls : (j : ℕ) → suc j < countAt labels at → timeAt labels at (suc j) < timeAt labels at j
+  pub energy-rises : (j : ℕ) → suc j < countAt labels at → energyAt labels at j < energyAt labels at (suc j)
 
 -- Labels that passed 11 to 15 and 17: "lists tile the file exactly to its end"
-pub record Formed (s : List ℕ) : Type 0 where
-  pub few-bytes : length s ≤ mostBytes
-  pub some-junction : 1 ≤ junctionsOf s
-  pub parents : ParentsFit s
-  pub lists : (g : ℕ) → g < listsOf s → ListFits s (placeOf s g)
-  pub tile : placeOf s (listsOf s) ≡ length s
-  pub all-entries : entriesBefore s (listsOf s) ≡ entriesOf s
+pub record Formed (labels : List ℕ) : Type 0 where
+  pub few-bytes : length labels ≤ mostBytes
+  pub some-junction : 1 ≤ junctionsOf labels
+  pub parents : ParentsFit labels
+  pub lists : (g : ℕ) → g < listsOf labels → ListFits labels (placeOf labels g)
+  pub tile : placeOf labels (listsOf labels) ≡ length labels
+  pub all-entries : entriesBefore labels (listsOf labels) ≡ entriesOf labels
 
 -- The byte where each junction's lists start
-pub record StartsFilled (s starts : List ℕ) : Type 0 where
+pub record StartsFilled (labels starts : List ℕ) : Type 0 where
   pub places : length starts ≡ 1024
-  pub start : (v : ℕ) → v < junctionsOf s → getD starts v 0 ≡ startOf s v
+  pub start : (v : ℕ) → v < junctionsOf labels → getD starts v 0 ≡ startOf labels v
 
 -- Labels that passed 11 to 17 beside a network that passed 1 to 6
 pub record Beside (net s : List ℕ) : Type 0 where
@@ -50,7 +50,7 @@ pub record Beside (net s : List ℕ) : Type 0 where
   pub joins : every (roadJoins net s) (roadsOf net) ≡ true
 
 -- What is worked out once per call: depths, starts, and the roads at each junction
-pub record Tables (net s depths starts heads nexts : List ℕ) : Type 0 where
-  pub depths-filled : DepthsFilled s depths
-  pub starts-filled : StartsFilled s starts
+pub record Tables (net labels depths starts heads nexts : List ℕ) : Type 0 where
+  pub depths-filled : DepthsFilled labels depths
+  pub starts-filled : StartsFilled labels starts
   pub grouped : Grouped net heads nexts

@@ -16,14 +16,14 @@ pub record EnergyFollows (before e : ℕ) : Type 0 where
   pub rises : before < e
 
 -- The first r of two places for entries, from byte `at` on, keep the rules
-pub record Leading (s : List ℕ) (at r : ℕ) : Type 0 where
+pub record Leading (labels : List ℕ) (at r : ℕ) : Type 0 where
   pub few : r ≤ 2
-  pub fit : (j : ℕ) → j < r → entryNumber s at j ≡ 0
+  pub fit : (j : ℕ) → j < r → entryNumber labels at j ≡ 0
 
 -- A list of one entry without fault
-pub record SingleList (s : List ℕ) (at : ℕ) : Type 0 where
-  pub one : countAt s at ≡ 1
-  pub fits : listNumber s at ≡ 0
+pub record SingleList (labels : List ℕ) (at : ℕ) : Type 0 where
+  pub one : countAt labels at ≡ 1
+  pub fits : listNumber labels at ≡ 0
 
 -- r of the lists stand in so many bytes, if none has more than two entries
 pub record Quick (bytes lists r : ℕ) : Type 0 where

@@ -16,25 +16,25 @@ use Rattle.stored.specs.working.Formed.{StartsFilled}
 
 -- The byte k lists behind the one at byte `at`
 unfoldable pub further : List ℕ → ℕ → ℕ → ℕ
-further s at zero = at
-further s at (suc k) = listEnd s (further s at k)
+further labels at zero = at
+further labels at (suc k) = listEnd labels (further labels at k)
 
 -- The list of v and its proper ancestor u is at byte `at`; it is one of the file's lists
-pub record FoundList (s : List ℕ) (v u at : ℕ) : Type 0 where
-  pub place : at ≡ listPlace s v u
+pub record FoundList (labels : List ℕ) (v u at : ℕ) : Type 0 where
+  pub place : at ≡ listPlace labels v u
   pub number : ℕ
-  pub below : number < listsOf s
-  pub stands : at ≡ placeOf s number
+  pub below : number < listsOf labels
+  pub stands : at ≡ placeOf labels number
 
 -- Entry j's time stays below the time before it; the first entry's below one more than the most
 abbrev pub timeCeiling : List ℕ → ℕ → ℕ → ℕ
-timeCeiling s at zero = suc mostFigure
-timeCeiling s at (suc j) = timeAt s at j
+timeCeiling labels at zero = suc mostFigure
+timeCeiling labels at (suc j) = timeAt labels at j
 
 -- Entry j's energy is at least one more than the energy before it; the first entry's at least the least
 abbrev pub energyFloor : List ℕ → ℕ → ℕ → ℕ
-energyFloor s at zero = leastEnergy (versionOf s)
-energyFloor s at (suc j) = suc (energyAt s at j)
+energyFloor labels at zero = leastEnergy (versionOf labels)
+energyFloor labels at (suc j) = suc (energyAt labels at j)
 
 -- A time from 1 to the most, and below a ceiling
 abbrev pub timeBelow : ℕ → ℕ → Bool
@@ -51,30 +51,30 @@ pub record Inside (bytes count whole : ℕ) : Type 0 where
   pub cut : whole < count → bytes < 8 * whole + 8
 
 -- After the k lists from byte `at` on: their number and, if that is 0, the byte behind them and the entries counted so far
-pub record ScannedSome (s : List ℕ) (at k total : ℕ) (number behind sum : ℕ) : Type 0 where
-  pub is : number ≡ firstFault (λ i. listNumber s (further s at i)) 0 k
-  pub place : number ≡ 0 → behind ≡ further s at k
-  pub inside : number ≡ 0 → behind ≤ length s
+pub record ScannedSome (labels : List ℕ) (at k total : ℕ) (number behind sum : ℕ) : Type 0 where
+  pub is : number ≡ firstFault (λ i. listNumber labels (further labels at i)) 0 k
+  pub place : number ≡ 0 → behind ≡ further labels at k
+  pub inside : number ≡ 0 → behind ≤ length labels
   pub counted : number ≡ 0 → at + 2 * k + 8 * sum ≡ behind + 8 * total
 
 -- Of so many lists from byte `at` on the first k are passed, none with a fault
-pub record PassedSome (s : List ℕ) (at lists total : ℕ) (k behind sum : ℕ) : Type 0 where
+pub record PassedSome (labels : List ℕ) (at lists total : ℕ) (k behind sum : ℕ) : Type 0 where
   pub few : k ≤ lists
-  pub none : firstFault (λ i. listNumber s (further s at i)) 0 k ≡ 0
-  pub place : behind ≡ further s at k
-  pub inside : behind ≤ length s
+  pub none : firstFault (λ i. listNumber labels (further labels at i)) 0 k ≡ 0
+  pub place : behind ≡ further labels at k
+  pub inside : behind ≤ length labels
   pub counted : at + 2 * k + 8 * sum ≡ behind + 8 * total
 
 -- After all lists: their number and, if that is 0, the byte behind the last, all entries, and where each junction's lists start
-pub record Scanned (s starts : List ℕ) (number at total : ℕ) : Type 0 where
-  pub is : number ≡ listsNumber s
+pub record Scanned (labels starts : List ℕ) (number at total : ℕ) : Type 0 where
+  pub is : number ≡ listsNumber labels
   pub places : length starts ≡ 1024
-  pub behind : number ≡ 0 → at ≡ placeOf s (listsOf s)
-  pub sum : number ≡ 0 → total ≡ entriesBefore s (listsOf s)
-  pub starts-filled : number ≡ 0 → StartsFilled s starts
+  pub behind : number ≡ 0 → at ≡ placeOf labels (listsOf labels)
+  pub sum : number ≡ 0 → total ≡ entriesBefore labels (listsOf labels)
+  pub starts-filled : number ≡ 0 → StartsFilled labels starts
 
 -- The list at byte `at` stands in the first places of two lent slices
-pub record Loaded (s : List ℕ) (at : ℕ) (times energies timesAfter energiesAfter : List ℕ) (count : ℕ) : Type 0 where
-  pub is : count ≡ countAt s at
-  pub times-filled : timesAfter ≡ filled times (tabulate (timeAt s at) (countAt s at))
-  pub energies-filled : energiesAfter ≡ filled energies (tabulate (energyAt s at) (countAt s at))
+pub record Loaded (labels : List ℕ) (at : ℕ) (times energies timesAfter energiesAfter : List ℕ) (count : ℕ) : Type 0 where
+  pub is : count ≡ countAt labels at
+  pub times-filled : timesAfter ≡ filled times (tabulate (timeAt labels at) (countAt labels at))
+  pub energies-filled : energiesAfter ≡ filled energies (tabulate (energyAt labels at) (countAt labels at))
