@@ -21,7 +21,7 @@ use Rattle.network.specs.working.Fits.{NetworkFits}
 use Rattle.network.proofs.GroupedRoads.{nexts-filled}
 use Rattle.forest.specs.LabelFile.{parentsOf, countAt}
 use Rattle.stored.specs.Stored.{listPlace, listAt, stored}
-use Rattle.stored.specs.working.Formed.{ListFits, Beside}
+use Rattle.stored.specs.working.Formed.{ListFits, FilesFit}
 use Rattle.stored.proofs.Tabulate.{Stands, member-stands, tabulate-member}
 use Rattle.agree.specs.working.Covering.{Marking, ListRead, entryOf, MetBy, Covering}
 use Rattle.agree.specs.working.Agreeing.{AgreeInput, Unmarked, RoadInput, Left, Met, RoadCovers, MetOver, RoadTested, AllMarked, Cleared, MarksRead}
@@ -181,10 +181,10 @@ pub record Agreed (net s : List ℕ) (v u own k : ℕ) (marks now : List ℕ) : 
   pub marking : Marking (MetSofar net s v u own k) marks now
 
 -- a road that something is met over has v for an end
-met-touches : {net s : List ℕ} → Beside net s → {v u : ℕ} {p : Weight} (met : Met net s v u p) → touches net v (met .number) ≡ true
+met-touches : {net s : List ℕ} → FilesFit net s → {v u : ℕ} {p : Weight} (met : Met net s v u p) → touches net v (met .number) ≡ true
 met-touches beside met = arc-touches (beside .network) (met .arc) .0
 
-module _ {net s : List ℕ} (beside : Beside net s) {v u own : ℕ} where
+module _ {net s : List ℕ} (beside : FilesFit net s) {v u own : ℕ} where
   -- a road that is not one of v covers all that starts with it: nothing
   covers-if : {j : ℕ} → (touches net v j ≡ true → RoadCovers net s v u own j) → RoadCovers net s v u own j
   covers-if f = record { covers = λ arc left. f (arc-touches (beside .network) arc .0) .covers arc left }

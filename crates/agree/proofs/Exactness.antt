@@ -8,10 +8,10 @@ use Rattle.network.specs.NetworkFile.{networkOf}
 use Rattle.forest.specs.LabelFile.{parentsOf}
 use Rattle.stored.specs.Stored.{stored}
 use Rattle.stored.specs.Right.{EveryListRight}
-use Rattle.stored.specs.working.Formed.{Beside}
+use Rattle.stored.specs.working.Formed.{FilesFit}
 use Rattle.stored.proofs.Passed.{roads-two-way, roads-joined, parents-forest, lists-ordered}
 
-module _ {net s : List ℕ} (beside : Beside net s) where
+module _ {net s : List ℕ} (beside : FilesFit net s) where
   -- the test road by road decides whether every list is right
   pub agreeing-is-right : AllAgree (networkOf net) (parentsOf s) (stored s) ↔ EveryListRight net s
   agreeing-is-right = (

@@ -17,7 +17,7 @@ use Rattle.network.proofs.RoadsAt.{touches-arc, other-on-map}
 use Rattle.forest.specs.LabelFile.{parentsOf}
 use Rattle.forest.proofs.Forest.{above-at}
 use Rattle.stored.specs.Stored.{listAt, stored}
-use Rattle.stored.specs.working.Formed.{ListFits, Beside}
+use Rattle.stored.specs.working.Formed.{ListFits, FilesFit}
 use Rattle.agree.specs.working.Agreeing.{RoadInput, Left}
 use Rattle.stored.proofs.Passed.{stored-fits, parents-forest, roads-joined}
 
@@ -28,7 +28,7 @@ neighbour-related : {parent : Parents} {v u w : ℕ} → Above parent u v → Re
 neighbour-related h (inl k) = inr (ancestor-trans (inr h) k)
 neighbour-related h (inr k) = ancestors-related k (inr h)
 
-module _ {net s : List ℕ} (beside : Beside net s) where
+module _ {net s : List ℕ} (beside : FilesFit net s) where
   -- no junction is above itself, nor two above each other
   not-same : {x y : ℕ} → x ≡ y → Above (parentsOf s) x y → ⊥
   not-same e h = above-irrefl (parents-forest beside) (rw e at h)
@@ -43,7 +43,7 @@ pub record Leaves (net s : List ℕ) (w u : ℕ) (list : List Weight) : Type 0 w
   pub entry-left : {q : Weight} → List·Memᴰ q list → Left net s w u q
   pub left-entry : {q : Weight} → Left net s w u q → List·Memᴰ q list
 
-module _ {net s : List ℕ} (beside : Beside net s) {w u : ℕ} where
+module _ {net s : List ℕ} (beside : FilesFit net s) {w u : ℕ} where
   -- at the ancestor itself nothing is left
   pub leaves-nothing : w ≡ u → Leaves net s w u (pair 0 0 ∷ [])
   leaves-nothing e = record { entry-left = λ m. arrived e (List·Memᴰ·eq-of-singleton m); left-entry = λ left. held left }

@@ -16,7 +16,7 @@ use Rattle.refusals.specs.working.Decides.{Decides}
 use Rattle.forest.specs.LabelFile.{parentsOf}
 use Rattle.forest.proofs.Forest.{above-at}
 use Rattle.stored.specs.Stored.{stored}
-use Rattle.stored.specs.working.Formed.{Beside}
+use Rattle.stored.specs.working.Formed.{FilesFit}
 use Rattle.stored.specs.Right.{EveryListRight}
 use Rattle.stored.proofs.Passed.{below-on-map}
 use Rattle.agree.proofs.Exactness.{agreeing-is-right}
@@ -45,7 +45,7 @@ module _ {net s spots order : List ℕ} {u from to : ℕ} (block : BlockOf s spo
   module _ {i v : ℕ} (agreed : AgreedTo net s order u from i) (more : i < to) (v-is : v ≡ getD order i 0) where
     -- the list of the junction at spot i may be tested
     pub may-test :
-        {heads nexts places : List ℕ} → Beside net s → Grouped net heads nexts → PlacesFor s u places → AgreeInput net s heads nexts places v u
+        {heads nexts places : List ℕ} → FilesFit net s → Grouped net heads nexts → PlacesFor s u places → AgreeInput net s heads nexts places v u
     may-test beside grouped places =
         let above : Above (parentsOf s) u v = rw v-is (block .below i (agreed .onward) more) in
         record { beside = beside; grouped = grouped; places-for = places; on-map = below-on-map s above; above = above }
@@ -84,7 +84,7 @@ module _ {net s spots order : List ℕ} {u from to : ℕ} (block : BlockOf s spo
 pub record AgreedFrom (net s order : List ℕ) (i : ℕ) : Type 0 where
   pub so-far : (j : ℕ) → i ≤ j → j < junctionsOf s → AgreesBelow net s (getD order j 0)
 
-module _ {net s : List ℕ} (beside : Beside net s) {spots sizes order : List ℕ} (numbered : Numbered s spots sizes order) where
+module _ {net s : List ℕ} (beside : FilesFit net s) {spots sizes order : List ℕ} (numbered : Numbered s spots sizes order) where
   -- before the first
   pub from-none : {n : ℕ} → n ≡ junctionsOf s → AgreedFrom net s order n
   from-none n-is = record { so-far = λ j from to. absurd (omega arith) }

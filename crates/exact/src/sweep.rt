@@ -17,7 +17,7 @@ ghost use Rattle.refusals.specs.working.Decides.{Decides};
 ghost use Rattle.forest.specs.LabelFile.{parentsOf};
 ghost use Rattle.forest.specs.working.Fits.{ParentsFit, DepthsFilled};
 ghost use Rattle.stored.specs.Stored.{stored};
-ghost use Rattle.stored.specs.working.Formed.{Formed, StartsFilled, Beside, Tables, ListFits};
+ghost use Rattle.stored.specs.working.Formed.{Formed, StartsFilled, FilesFit, Tables, ListFits};
 ghost use Rattle.stored.specs.Right.{EveryListRight};
 ghost use Rattle.preorder.specs.working.Numbered.{Numbered};
 ghost use Rattle.agree.specs.working.Agreeing.{PlacesFor, AgreeInput, Unmarked};
@@ -92,7 +92,7 @@ fn lists_agree(
     to: usize,
     marks: &mut [u8; 4096],
 ) -> bool
-    requires { ⌜ Beside (now net) (now labels) × Grouped (now net) (now heads) (now nexts) ⌝ }
+    requires { ⌜ FilesFit (now net) (now labels) × Grouped (now net) (now heads) (now nexts) ⌝ }
     requires { ⌜ BlockOf (now labels) (now spots) (now order) u from to ⌝ }
     requires { ⌜ PlacesFor (now labels) u (now places) ⌝ }
     requires { ⌜ Unmarked (now marks) ⌝ }
@@ -212,7 +212,7 @@ pub fn exact(
     places: &mut [u32; 1024],
     marks: &mut [u8; 4096],
 ) -> bool
-    requires { ⌜ Beside (now net) (now labels) ⌝ }
+    requires { ⌜ FilesFit (now net) (now labels) ⌝ }
     requires { ⌜ Tables (now net) (now labels) (now depths) (now starts) (now heads) (now nexts) ⌝ }
     requires { ⌜ length (now places) ≡ 1024 ⌝ }
     requires { ⌜ Unmarked (now marks) ⌝ }

@@ -18,9 +18,9 @@ use Rattle.forest.specs.LabelFile.{entriesOf}
 use Rattle.forest.specs.Forest.{parentsPass, roadJoins}
 use Rattle.stored.specs.Stored.{listsOf, placeOf, entriesBefore}
 use Rattle.stored.specs.ListForm.{mostBytes, listsNumber}
-use Rattle.files.specs.LabelForm.{headerForm, parentsForm, listsForm, labelForm, sameNetwork, formBeside, junctionsFit, formAlone}
+use Rattle.files.specs.LabelForm.{headerForm, parentsForm, listsForm, labelForm, sameNetwork, labelsNumber, junctionsFit, labelsNumberAlone}
 use Rattle.forest.specs.working.Fits.{ParentsFit}
-use Rattle.stored.specs.working.Formed.{ListFits, Formed, Beside}
+use Rattle.stored.specs.working.Formed.{ListFits, Formed, FilesFit}
 use Rattle.forest.proofs.Chains.{parents-fit}
 use Rattle.stored.proofs.Lists.{lists-fit}
 
@@ -123,9 +123,9 @@ junctions-fit-few s e =
     let both = and-both (leb 1 (junctionsOf s)) (leb (junctionsOf s) 1024) e in (leb-true _ _ (both .0), leb-true _ _ (both .1))
 
 -- labels that pass alone are formed
-pub form-alone-passed : (s : List ℕ) → formAlone s ≡ 0 → Formed s
-unfolding formAlone
-form-alone-passed s e =
+pub alone-formed : (s : List ℕ) → labelsNumberAlone s ≡ 0 → Formed s
+unfolding labelsNumberAlone
+alone-formed s e =
     let parts = parts-pass (junctionsFit s) true s e in
     let few = junctions-fit-few s (parts .fits-passed) in
     parts-formed parts (few .0) (few .1)
@@ -139,9 +139,9 @@ same-network-size net s e =
     let both = and-both (eqb (junctionsOf s) (junctionsOf net)) (eqb (identityOf s) (identityOf net)) e in sym (eqb-true _ _ (both .0))
 
 -- labels that pass beside a network stand beside it
-pub form-beside-passed : {net : List ℕ} (s : List ℕ) → NetworkFits net → formBeside net s ≡ 0 → Beside net s
-unfolding formBeside
-form-beside-passed {net} s network e =
+pub files-fit : {net : List ℕ} (s : List ℕ) → NetworkFits net → labelsNumber net s ≡ 0 → FilesFit net s
+unfolding labelsNumber
+files-fit {net} s network e =
     let parts = parts-pass (sameNetwork net s) (every (roadJoins net s) (roadsOf net)) s e in
     let same = same-network-size net s (parts .fits-passed) in
     record {

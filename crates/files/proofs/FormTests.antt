@@ -18,18 +18,18 @@ use Rattle.network.specs.working.Fits.{NetworkFits}
 use Rattle.forest.specs.LabelFile.{entriesOf}
 use Rattle.forest.specs.Forest.{roadJoins}
 use Rattle.stored.specs.ListForm.{mostBytes}
-use Rattle.files.specs.LabelForm.{headerForm, parentsForm, listsForm, labelForm, sameNetwork, formBeside, junctionsFit, formAlone}
+use Rattle.files.specs.LabelForm.{headerForm, parentsForm, listsForm, labelForm, sameNetwork, labelsNumber, junctionsFit, labelsNumberAlone}
 use Rattle.forest.specs.working.Fits.{ParentsFit, DepthsFilled}
 use Rattle.forest.specs.working.ParentsRead.{ParentsTested}
 use Rattle.stored.specs.working.Scanned.{Scanned}
-use Rattle.files.specs.working.FormRead.{ParentsNumbered, ListsNumbered, FormRead, AloneRead, BesideRead}
+use Rattle.files.specs.working.FormRead.{ParentsNumbered, ListsNumbered, FormRead, LabelsNumberedAlone, LabelsNumbered}
 use Rattle.files.proofs.FormLaws.{
   header-fits,
   parents-form-fit,
   junctions-fit-few,
-  form-alone-passed,
+  alone-formed,
   same-network-size,
-  form-beside-passed,
+  files-fit,
 }
 
 -- ---- The header
@@ -251,24 +251,24 @@ pub alone-few : (s : List ℕ) {fit : Bool} → fit ≡ junctionsFit s → not f
 alone-few s {fit} fit-is holds = junctions-fit-few s (sym fit-is ∙ not-false fit holds) .1
 
 -- what is read of a file's form alone says whether it is formed
-pub alone-read : {s depths starts : List ℕ} {r : ℕ} → FormRead s depths starts (labelForm (junctionsFit s) true s) r → AloneRead s depths starts r
-unfolding formAlone
-alone-read {s} read = record { read = read; formed = λ z. form-alone-passed s (sym (read .number) ∙ z) }
+pub labels-numbered-alone : {s depths starts : List ℕ} {r : ℕ} → FormRead s depths starts (labelForm (junctionsFit s) true s) r → LabelsNumberedAlone s depths starts r
+unfolding labelsNumberAlone
+labels-numbered-alone {s} read = record { read = read; formed = λ z. alone-formed s (sym (read .number) ∙ z) }
 
 -- ---- Labels beside a network
 
 module _ {net : List ℕ} (s : List ℕ) (network : NetworkFits net) where
   -- where 14 is passed there are as many junctions as the network has
-  pub beside-size : {fit : Bool} → fit ≡ sameNetwork net s → not fit ≡ false → junctionsOf net ≡ junctionsOf s
-  beside-size {fit} fit-is holds = same-network-size net s (sym fit-is ∙ not-false fit holds)
+  pub fit-size : {fit : Bool} → fit ≡ sameNetwork net s → not fit ≡ false → junctionsOf net ≡ junctionsOf s
+  fit-size {fit} fit-is holds = same-network-size net s (sym fit-is ∙ not-false fit holds)
 
-  pub beside-few : {fit : Bool} → fit ≡ sameNetwork net s → not fit ≡ false → junctionsOf s ≤ 1024
-  beside-few fit-is holds = omega (arith, beside-size fit-is holds, network .few-junctions)
+  pub fit-few : {fit : Bool} → fit ≡ sameNetwork net s → not fit ≡ false → junctionsOf s ≤ 1024
+  fit-few fit-is holds = omega (arith, fit-size fit-is holds, network .few-junctions)
 
   -- what is read of a file's form beside a network says whether they stand together
-  pub beside-read :
+  pub labels-numbered :
       {depths starts : List ℕ} {r : ℕ} →
       FormRead s depths starts (labelForm (sameNetwork net s) (every (roadJoins net s) (roadsOf net)) s) r →
-      BesideRead net s depths starts r
-  unfolding formBeside
-  beside-read read = record { read = read; beside = λ z. form-beside-passed s network (sym (read .number) ∙ z) }
+      LabelsNumbered net s depths starts r
+  unfolding labelsNumber
+  labels-numbered read = record { read = read; fit = λ z. files-fit s network (sym (read .number) ∙ z) }

@@ -12,7 +12,7 @@ use Rattle.network.specs.NetworkFile.{junctionsOf}
 use Rattle.forest.specs.LabelFile.{listEnd}
 use Rattle.forest.specs.Forest.{depthOf, isAncestor}
 use Rattle.stored.specs.Stored.{listPlace}
-use Rattle.files.specs.LabelForm.{formAlone}
+use Rattle.files.specs.LabelForm.{labelsNumberAlone}
 use Rattle.forest.specs.working.Fits.{ParentsFit}
 use Rattle.stored.specs.working.Formed.{Formed}
 use Rattle.stored.specs.working.Scanned.{FoundList}
@@ -50,7 +50,7 @@ pub span-none : {s : List ℕ} {v u : ℕ} → (Shows s v u → ⊥) → SpanFou
 span-none h = record { spans = none h refl refl; rises = omega arith; inside = omega arith }
 
 -- labels that are refused show nothing
-pub span-refused : {s : List ℕ} {v u r : ℕ} → r ≡ formAlone s → (r ≡ 0 → ⊥) → SpanFound s v u 0 0
+pub span-refused : {s : List ℕ} {v u r : ℕ} → r ≡ labelsNumberAlone s → (r ≡ 0 → ⊥) → SpanFound s v u 0 0
 span-refused is fails = span-none (λ h. fails (is ∙ h .formed))
 
 module _ {s : List ℕ} (v u : ℕ) {n : ℕ} (n-is : n ≡ junctionsOf s) where
@@ -71,7 +71,7 @@ found-stands {s} {at = at} formed found = omega (arith, list-takes s at, found-f
 
 -- and is shown from its count through its last entry
 pub span-list :
-    {s : List ℕ} {v u n at end : ℕ} {r : Bool} → formAlone s ≡ 0 → Formed s → n ≡ junctionsOf s → v < n → u < n →
+    {s : List ℕ} {v u n at end : ℕ} {r : Bool} → labelsNumberAlone s ≡ 0 → Formed s → n ≡ junctionsOf s → v < n → u < n →
     AboveTested s u v r → not r ≡ false → FoundList s v u at → end ≡ listEnd s at → SpanFound s v u at end
 span-list {s} {v} {u} {n} {at} {end} {r} passes formed n-is v-on u-on tested holds found is =
     record {

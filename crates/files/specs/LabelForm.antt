@@ -55,12 +55,12 @@ unfoldable pub sameNetwork : List ℕ → List ℕ → Bool
 sameNetwork net labels = eqb (junctionsOf labels) (junctionsOf net) && eqb (identityOf labels) (identityOf net)
 
 -- The number of labels beside a network that passed
-unfoldable pub formBeside : List ℕ → List ℕ → ℕ
-formBeside net labels = labelForm (sameNetwork net labels) (every (roadJoins net labels) (roadsOf net)) labels
+unfoldable pub labelsNumber : List ℕ → List ℕ → ℕ
+labelsNumber net labels = labelForm (sameNetwork net labels) (every (roadJoins net labels) (roadsOf net)) labels
 
 -- "A call that has labels but no network takes n from them and gives 14 for n outside 1 to 1,024."
 abbrev pub junctionsFit : List ℕ → Bool
 junctionsFit labels = leb 1 (junctionsOf labels) && leb (junctionsOf labels) 1024
 
-unfoldable pub formAlone : List ℕ → ℕ
-formAlone labels = labelForm (junctionsFit labels) true labels
+unfoldable pub labelsNumberAlone : List ℕ → ℕ
+labelsNumberAlone labels = labelForm (junctionsFit labels) true labels

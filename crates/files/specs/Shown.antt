@@ -8,11 +8,11 @@ use Rattle.paths.specs.Forest.{Above}
 use Rattle.network.specs.NetworkFile.{junctionsOf}
 use Rattle.forest.specs.LabelFile.{parentsOf, listEnd}
 use Rattle.stored.specs.Stored.{listPlace}
-use Rattle.files.specs.LabelForm.{formAlone}
+use Rattle.files.specs.LabelForm.{labelsNumberAlone}
 
 -- What must hold for a list to be handed out
 pub record Shows (labels : List ℕ) (v u : ℕ) : Type 0 where
-  pub formed : formAlone labels ≡ 0
+  pub formed : labelsNumberAlone labels ≡ 0
   pub junction : v < junctionsOf labels
   pub ancestor-junction : u < junctionsOf labels
   pub proper-ancestor : Above (parentsOf labels) u v

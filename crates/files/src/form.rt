@@ -14,7 +14,7 @@ ghost use Rattle.network.specs.working.Fits.{NetworkFits};
 ghost use Rattle.stored.specs.ListForm.{mostBytes};
 ghost use Rattle.files.specs.LabelForm.{headerForm, sameNetwork, junctionsFit};
 ghost use Rattle.forest.specs.working.Fits.{ParentsFit, DepthsFilled};
-ghost use Rattle.files.specs.working.FormRead.{ParentsNumbered, ListsNumbered, AloneRead, BesideRead};
+ghost use Rattle.files.specs.working.FormRead.{ParentsNumbered, ListsNumbered, LabelsNumberedAlone, LabelsNumbered};
 
 const MOST_BYTES: usize = 4194304;
 
@@ -115,10 +115,10 @@ fn lists_form(labels: &[u8], depths: &[u32; 1024], starts: &mut [u32; 1024]) -> 
 }
 
 // 11 to 15 or 17 for labels alone, or 0; at 0 both tables are filled.
-pub fn form_alone(labels: &[u8], depths: &mut [u32; 1024], starts: &mut [u32; 1024]) -> u32
+pub fn labels_number_alone(labels: &[u8], depths: &mut [u32; 1024], starts: &mut [u32; 1024]) -> u32
     requires { ⌜ length (now depths) ≡ 1024 ⌝ }
     requires { ⌜ length (now starts) ≡ 1024 ⌝ }
-    ensures { λ r. ⌜ AloneRead (now (labels .entry)) (now (depths .exit)) (now (starts .exit)) r ⌝ }
+    ensures { λ r. ⌜ LabelsNumberedAlone (now (labels .entry)) (now (depths .exit)) (now (starts .exit)) r ⌝ }
 {
     let header = header_form(labels);
     if header != 0 {
@@ -135,7 +135,7 @@ pub fn form_alone(labels: &[u8], depths: &mut [u32; 1024], starts: &mut [u32; 10
 }
 
 // 11 to 17 for labels beside a network that passed, or 0; at 0 both tables are filled.
-pub fn form_beside(
+pub fn labels_number(
     net: &[u8],
     labels: &[u8],
     depths: &mut [u32; 1024],
@@ -144,7 +144,7 @@ pub fn form_beside(
     requires { ⌜ NetworkFits (now net) ⌝ }
     requires { ⌜ length (now depths) ≡ 1024 ⌝ }
     requires { ⌜ length (now starts) ≡ 1024 ⌝ }
-    ensures { λ r. ⌜ BesideRead (now (net .entry)) (now (labels .entry)) (now (depths .exit)) (now (starts .exit)) r ⌝ }
+    ensures { λ r. ⌜ LabelsNumbered (now (net .entry)) (now (labels .entry)) (now (depths .exit)) (now (starts .exit)) r ⌝ }
 {
     let header = header_form(labels);
     if header != 0 {

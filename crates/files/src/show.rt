@@ -1,5 +1,5 @@
 // Show: the very bytes of one stored list, handed out from the labels lent.
-use crate::form::form_alone;
+use crate::form::labels_number_alone;
 use bytes::u16_at;
 use forest::parents::is_ancestor;
 use stored::place::find_list;
@@ -8,7 +8,7 @@ ghost use Prim.Native.Nat.{_+_, _≤_, _<_};
 ghost use lib.ListN.{length};
 ghost use Rattle.network.specs.NetworkFile.{junctionsOf};
 ghost use Rattle.stored.specs.Stored.{listPlace};
-ghost use Rattle.files.specs.LabelForm.{formAlone};
+ghost use Rattle.files.specs.LabelForm.{labelsNumberAlone};
 ghost use Rattle.forest.specs.working.Fits.{ParentsFit, DepthsFilled};
 ghost use Rattle.stored.specs.working.Formed.{Formed, StartsFilled};
 ghost use Rattle.files.specs.Shown.{Shown};
@@ -36,7 +36,7 @@ fn is_above(labels: &[u8], depths: &[u32; 1024], u: usize, v: usize) -> bool
 
 // Where the list to show stands in labels that passed.
 fn list_span(labels: &[u8], depths: &[u32; 1024], starts: &[u32; 1024], v: usize, u: usize) -> Span
-    requires { ⌜ formAlone (now labels) ≡ 0 ⌝ }
+    requires { ⌜ labelsNumberAlone (now labels) ≡ 0 ⌝ }
     requires { ⌜ Formed (now labels) ⌝ }
     requires { ⌜ DepthsFilled (now labels) (now depths) ⌝ }
     requires { ⌜ StartsFilled (now labels) (now starts) ⌝ }
@@ -68,7 +68,7 @@ pub fn span_of(labels: &[u8], v: u32, u: u32) -> Span
 {
     let mut depths: [u32; 1024] = [0; 1024];
     let mut starts: [u32; 1024] = [0; 1024];
-    let number = form_alone(labels, &mut depths, &mut starts);
+    let number = labels_number_alone(labels, &mut depths, &mut starts);
     if number != 0 {
         return Span { start: 0, end: 0 };
     }

@@ -19,7 +19,7 @@ use Rattle.network.proofs.Arcs.{two-way}
 use Rattle.forest.specs.LabelFile.{parentsOf}
 use Rattle.forest.specs.Forest.{depthOf, ancestorOf, isAncestor, roadJoins}
 use Rattle.forest.specs.working.Fits.{ParentsFit, DepthsFilled}
-use Rattle.stored.specs.working.Formed.{Beside}
+use Rattle.stored.specs.working.Formed.{FilesFit}
 use Rattle.forest.proofs.Chains.{climbed}
 use Rattle.forest.proofs.Forest.{above-shallower, above-at, is-ancestor-sound, is-ancestor-complete, low-on-map, high-on-map, joined-related}
 use Rattle.hoplinks.specs.working.Meeting.{HopMarks}
@@ -104,7 +104,7 @@ module _ {net s : List ℕ} (fit : ParentsFit s) {l upper lower k : ℕ} {w : we
       }
 
 module _
-    {net s depths : List ℕ} (beside : Beside net s) (filled : DepthsFilled s depths) {k low high : ℕ}
+    {net s depths : List ℕ} (beside : FilesFit net s) (filled : DepthsFilled s depths) {k low high : ℕ}
     (stands : k < roadsOf net) (low-is : ReadU16 net (16 + 8 * k) low) (high-is : ReadU16 net (18 + 8 * k) high)
   where
     fit : ParentsFit s

@@ -8,7 +8,7 @@ ghost use Prim.Native.Nat.{_<_};
 ghost use lib.ListN.{length};
 ghost use Rattle.network.specs.NetworkFile.{junctionsOf, roadsOf};
 ghost use Rattle.forest.specs.working.Fits.{ParentsFit, DepthsFilled};
-ghost use Rattle.stored.specs.working.Formed.{Beside};
+ghost use Rattle.stored.specs.working.Formed.{FilesFit};
 ghost use Rattle.hoplinks.specs.working.Meeting.{HopMarks};
 ghost use Rattle.hoplinks.specs.working.Marking.{OneMark, OnBranch, CrossingDepth, RoadMark};
 
@@ -52,7 +52,7 @@ fn crossing_depth(labels: &[u8], depths: &[u32; 1024], l: usize, upper: usize, l
 
 // The depth that road k marks: of the hoplink above l that it joins to l or below, or else of l.
 fn road_mark(net: &[u8], labels: &[u8], depths: &[u32; 1024], l: usize, k: usize) -> u32
-    requires { ⌜ Beside (now net) (now labels) × DepthsFilled (now labels) (now depths) × (l < junctionsOf (now labels)) × (k < roadsOf (now net)) ⌝ }
+    requires { ⌜ FilesFit (now net) (now labels) × DepthsFilled (now labels) (now depths) × (l < junctionsOf (now labels)) × (k < roadsOf (now net)) ⌝ }
     ensures { λ r. ⌜ RoadMark (now (net .entry)) (now (labels .entry)) l k r ⌝ }
 {
     let low = road_low(net, k);
@@ -71,7 +71,7 @@ pub fn mark_hoplinks(
     l: usize,
     marks: &mut [u8; 1024],
 )
-    requires { ⌜ Beside (now net) (now labels) × DepthsFilled (now labels) (now depths) × (l < junctionsOf (now labels)) × (length (now marks) ≡ 1024) ⌝ }
+    requires { ⌜ FilesFit (now net) (now labels) × DepthsFilled (now labels) (now depths) × (l < junctionsOf (now labels)) × (length (now marks) ≡ 1024) ⌝ }
     ensures { λ _. ⌜ HopMarks (now (net .entry)) (now (labels .entry)) l (now (marks .exit)) ⌝ }
 {
     mark_itself(wide(depths[l]), marks);

@@ -5,7 +5,7 @@ use Prim.Native.Nat.{ℕ}
 use native.Mathlib.Omega.{arith}
 use Rattle.network.specs.Versions.{versionOne}
 use Rattle.network.proofs.Accepted.{network-fits}
-use Rattle.files.proofs.FormLaws.{form-beside-passed}
+use Rattle.files.proofs.FormLaws.{files-fit}
 use Rattle.labels.specs.working.Working.{Accepted}
 use Rattle.query.specs.working.Prepared.{Prepared}
 use Rattle.labels.specs.Check.{Checked, network-refused, labels-refused, list-wrong, accepted}
@@ -30,7 +30,7 @@ pub ready-for-queries : {net s depths starts heads nexts : List ℕ} {number : �
 ready-for-queries {net} {s} accepting none =
     let a = zero-accepts (accepting .checked) none in
     record {
-      beside = form-beside-passed s (network-fits versionOne net (a .network-passes)) (a .form-passes);
+      beside = files-fit s (network-fits versionOne net (a .network-passes)) (a .form-passes);
       every-list-right = a .every-list-right;
       depths-filled = accepting .tables none .depths-filled;
       starts-filled = accepting .tables none .starts-filled;

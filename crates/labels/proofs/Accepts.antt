@@ -11,8 +11,8 @@ use Rattle.network.specs.NetworkNumber.{netNumber}
 use Rattle.network.specs.working.Fits.{NetworkFits}
 use Rattle.network.specs.working.Roads.{Grouped}
 use Rattle.network.proofs.Accepted.{network-fits}
-use Rattle.stored.specs.working.Formed.{Tables, Beside}
-use Rattle.files.specs.working.FormRead.{BesideRead}
+use Rattle.stored.specs.working.Formed.{Tables, FilesFit}
+use Rattle.files.specs.working.FormRead.{LabelsNumbered}
 use Rattle.stored.specs.Right.{EveryListRight}
 use Rattle.labels.specs.Check.{Checked, network-refused, labels-refused, list-wrong, accepted}
 use Rattle.labels.specs.working.Working.{Accepting}
@@ -26,8 +26,8 @@ pub network-passes : {net : List ℕ} {number : ℕ} → number ≡ netNumber ve
 network-passes {net} is none = network-fits versionOne net (sym is ∙ none)
 
 -- labels whose form passed stand beside their network
-pub form-passes : {net s depths starts : List ℕ} {r : ℕ} → BesideRead net s depths starts r → r ≡ 0 → Beside net s
-form-passes form none = form .beside none
+pub form-passes : {net s depths starts : List ℕ} {r : ℕ} → LabelsNumbered net s depths starts r → r ≡ 0 → FilesFit net s
+form-passes form none = form .fit none
 
 module _ {net s depths starts heads nexts : List ℕ} where
   pub network-refuses :
@@ -45,7 +45,7 @@ module _ {net s depths starts heads nexts : List ℕ} where
       }
 
   pub labels-refuse :
-      {r : ℕ} (number : ℕ) → number ≡ netNumber versionOne net → number ≡ 0 → BesideRead net s depths starts r → (r ≡ 0 → ⊥) →
+      {r : ℕ} (number : ℕ) → number ≡ netNumber versionOne net → number ≡ 0 → LabelsNumbered net s depths starts r → (r ≡ 0 → ⊥) →
       length heads ≡ 1024 → length nexts ≡ 8192 → Accepting net s r depths starts heads nexts
   labels-refuse number is none form some h x =
       record {
@@ -57,11 +57,11 @@ module _ {net s depths starts heads nexts : List ℕ} where
         nexts-length = x;
       }
 
-  pub tables-filled : {r : ℕ} → BesideRead net s depths starts r → r ≡ 0 → Grouped net heads nexts → Tables net s depths starts heads nexts
+  pub tables-filled : {r : ℕ} → LabelsNumbered net s depths starts r → r ≡ 0 → Grouped net heads nexts → Tables net s depths starts heads nexts
   tables-filled form none grouped =
       record { depths-filled = form .read .depths-filled none; starts-filled = form .read .starts-filled none; grouped = grouped }
 
-  module _ (number r : ℕ) (is : number ≡ netNumber versionOne net) (none : number ≡ 0) (form : BesideRead net s depths starts r) (passes : r ≡ 0) (grouped : Grouped net heads nexts) where
+  module _ (number r : ℕ) (is : number ≡ netNumber versionOne net) (none : number ≡ 0) (form : LabelsNumbered net s depths starts r) (passes : r ≡ 0) (grouped : Grouped net heads nexts) where
     accepting : {answer : ℕ} → Checked net s answer → Accepting net s answer depths starts heads nexts
     accepting checked =
         record {

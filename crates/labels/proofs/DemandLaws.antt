@@ -24,9 +24,9 @@ use Rattle.network.specs.NetworkFile.{networkOf, junctionsOf}
 use Rattle.network.specs.NetworkNumber.{netNumber}
 use Rattle.network.proofs.Arcs.{network-finite}
 use Rattle.network.proofs.Accepted.{network-fits}
-use Rattle.files.specs.LabelForm.{formBeside}
-use Rattle.stored.specs.working.Formed.{Beside}
-use Rattle.files.proofs.FormLaws.{form-beside-passed}
+use Rattle.files.specs.LabelForm.{labelsNumber}
+use Rattle.stored.specs.working.Formed.{FilesFit}
+use Rattle.files.proofs.FormLaws.{files-fit}
 use Rattle.stored.specs.Right.{EveryListRight}
 use Rattle.stored.proofs.Passed.{lists-ordered}
 use Rattle.query.specs.Answers.{Answers, off-map, not-connected, over-limit, found}
@@ -42,7 +42,7 @@ use Rattle.labels.proofs.CheckUnique.{check-unique}
 -- ---- Accepted sets
 
 -- complete lists are right: a well-formed list rises
-complete-right : {net s : List ℕ} → Beside net s → Complete net s → EveryListRight net s
+complete-right : {net s : List ℕ} → FilesFit net s → Complete net s → EveryListRight net s
 complete-right beside complete =
     record {
       right = λ above.
@@ -65,7 +65,7 @@ right-complete every =
     }
 
 pub accepted-complete :
-    {net s : List ℕ} {number : ℕ} → netNumber versionOne net ≡ 0 → formBeside net s ≡ 0 → Checked net s number → (number ≡ 0) ↔ Complete net s
+    {net s : List ℕ} {number : ℕ} → netNumber versionOne net ≡ 0 → labelsNumber net s ≡ 0 → Checked net s number → (number ≡ 0) ↔ Complete net s
 accepted-complete {net} {s} network form check = (
   (λ z. right-complete (zero-accepts check z .every-list-right)),
   λ complete.
@@ -73,7 +73,7 @@ accepted-complete {net} {s} network form check = (
       (accepted-zero (record {
         network-passes = network;
         form-passes = form;
-        every-list-right = complete-right (form-beside-passed s (network-fits versionOne net network) form) complete;
+        every-list-right = complete-right (files-fit s (network-fits versionOne net network) form) complete;
       })),
 )
 

@@ -16,7 +16,7 @@ use Rattle.joins.specs.Answers.{Join, LimitedJoin}
 use Rattle.network.specs.Versions.{versionOne}
 use Rattle.network.specs.NetworkFile.{networkOf, junctionsOf}
 use Rattle.network.specs.NetworkNumber.{netNumber}
-use Rattle.files.specs.LabelForm.{formBeside}
+use Rattle.files.specs.LabelForm.{labelsNumber}
 use Rattle.files.specs.Shown.{Shows, Shown}
 use Rattle.query.specs.Answers.{Answers}
 use Rattle.labels.specs.Check.{Checked}
@@ -72,7 +72,7 @@ demand1 =
 pub record Demand2 (net s : List ℕ) : Type 0 where
   -- "A well-formed label set is accepted exactly if each stored list is the complete trade-off list of its two junctions: every pair
   -- is a real path's, none is beaten, none is absent."
-  pub accepted-exactly : netNumber versionOne net ≡ 0 → formBeside net s ≡ 0 → (number : ℕ) → Checked net s number → (number ≡ 0) ↔ Complete net s
+  pub accepted-exactly : netNumber versionOne net ≡ 0 → labelsNumber net s ≡ 0 → (number : ℕ) → Checked net s number → (number ≡ 0) ↔ Complete net s
   -- "On an accepted set a query gives": any three numbers are answered, and in one way
   pub some-answer : Checked net s 0 → (x y C : ℕ) → (number : ℕ) × (time : ℕ) × (units : ℕ) × Gives net s x y C number time units
   pub one-answer :

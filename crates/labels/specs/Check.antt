@@ -4,12 +4,12 @@ use mathlib.Core.List.{List}
 use Prim.Native.Nat.{ℕ}
 use Rattle.network.specs.Versions.{versionOne}
 use Rattle.network.specs.NetworkNumber.{netNumber}
-use Rattle.files.specs.LabelForm.{formBeside}
+use Rattle.files.specs.LabelForm.{labelsNumber}
 use Rattle.stored.specs.Right.{EveryListRight}
 
 -- The network's number, then the labels', then 18: "given exactly if all before it pass and a list differs from the definition"
 pub data Checked (net s : List ℕ) (number : ℕ) : Type 0 where
   network-refused : (netNumber versionOne net ≡ 0 → ⊥) → number ≡ netNumber versionOne net → Checked net s number
-  labels-refused : netNumber versionOne net ≡ 0 → (formBeside net s ≡ 0 → ⊥) → number ≡ formBeside net s → Checked net s number
-  list-wrong : netNumber versionOne net ≡ 0 → formBeside net s ≡ 0 → (EveryListRight net s → ⊥) → number ≡ 18 → Checked net s number
-  accepted : netNumber versionOne net ≡ 0 → formBeside net s ≡ 0 → EveryListRight net s → number ≡ 0 → Checked net s number
+  labels-refused : netNumber versionOne net ≡ 0 → (labelsNumber net s ≡ 0 → ⊥) → number ≡ labelsNumber net s → Checked net s number
+  list-wrong : netNumber versionOne net ≡ 0 → labelsNumber net s ≡ 0 → (EveryListRight net s → ⊥) → number ≡ 18 → Checked net s number
+  accepted : netNumber versionOne net ≡ 0 → labelsNumber net s ≡ 0 → EveryListRight net s → number ≡ 0 → Checked net s number

@@ -1,7 +1,7 @@
 // The check with its tables left filled: what every call but Show and the joins begins with. All large arrays are lent, so that each
 // call makes them once, at its start.
 use exact::sweep::exact;
-use files::form::form_beside;
+use files::form::labels_number;
 use network::network::net_number;
 use network::roads::group_roads;
 use network::versions::version_one;
@@ -27,7 +27,7 @@ pub fn accept(
     if number != 0 {
         return number;
     }
-    let form = form_beside(net, labels, depths, starts);
+    let form = labels_number(net, labels, depths, starts);
     if form != 0 {
         return form;
     }

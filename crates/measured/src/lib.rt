@@ -1,5 +1,5 @@
 // What bench/ measures, exported to Rust. Each function hands its arguments on, so its time is that of the function measured.
-use files::form::form_beside;
+use files::form::labels_number;
 use joins::JoinAnswer;
 use joins::SumAnswer;
 use joins::join::join;
@@ -63,7 +63,7 @@ pub extern "C" fn measured_form(net: &[u8], labels: &[u8]) -> u32
     }
     let mut depths: [u32; 1024] = [0; 1024];
     let mut starts: [u32; 1024] = [0; 1024];
-    form_beside(net, labels, &mut depths, &mut starts)
+    labels_number(net, labels, &mut depths, &mut starts)
 }
 
 // Join, for all inputs.

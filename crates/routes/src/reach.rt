@@ -20,7 +20,7 @@ ghost use Rattle.forest.specs.LabelFile.{countAt};
 ghost use Rattle.stored.specs.ListForm.{mostBytes, mostFigure};
 ghost use Rattle.stored.specs.Stored.{listAt};
 ghost use Rattle.forest.specs.working.Fits.{DepthsFilled};
-ghost use Rattle.stored.specs.working.Formed.{ListFits, Beside};
+ghost use Rattle.stored.specs.working.Formed.{ListFits, FilesFit};
 ghost use Rattle.hoplinks.specs.working.Meeting.{HopMarks};
 ghost use Rattle.query.specs.working.Prepared.{Prepared};
 ghost use Rattle.query.specs.working.AnswerFrom.{EntryOf};
@@ -176,7 +176,7 @@ fn hold_hoplinks(
     held: &mut usize,
     marks: &mut [u8; 1024],
 )
-    requires { ⌜ Beside (now net) (now labels) × DepthsFilled (now labels) (now depths) × (l < junctionsOf (now labels)) ⌝ }
+    requires { ⌜ FilesFit (now net) (now labels) × DepthsFilled (now labels) (now depths) × (l < junctionsOf (now labels)) ⌝ }
     requires { ⌜ Held (now net) (now labels) (now held) (now marks) ⌝ }
     ensures { λ _. ⌜ HopMarks (now (net .entry)) (now (labels .entry)) l (now (marks .exit)) ⌝ }
     ensures { λ _. ⌜ Held (now (net .entry)) (now (labels .entry)) (now (held .exit)) (now (marks .exit)) ⌝ }

@@ -15,7 +15,7 @@ use Rattle.forest.specs.LabelFile.{parentsOf}
 use Rattle.forest.specs.Forest.{depthOf}
 use Rattle.forest.proofs.Forest.{HasParent, parents-some, above-shallower, forest, roads-related}
 use Rattle.stored.specs.Stored.{listsBefore, listsOf, placeOf, listPlace, stored}
-use Rattle.stored.specs.working.Formed.{Formed, ListFits, Beside}
+use Rattle.stored.specs.working.Formed.{Formed, ListFits, FilesFit}
 use Rattle.stored.specs.working.Scanned.{FoundList}
 use Rattle.stored.proofs.Places.{list-number-of, found-fits}
 use Rattle.stored.proofs.Lists.{list-ordered}
@@ -42,7 +42,7 @@ module _ {s : List ℕ} (formed : Formed s) where
   unfolding stored
   stored-ordered above = list-ordered (stored-fits above)
 
-module _ {net s : List ℕ} (beside : Beside net s) where
+module _ {net s : List ℕ} (beside : FilesFit net s) where
   pub roads-two-way : TwoWay (networkOf net)
   roads-two-way = record { back = two-way }
 

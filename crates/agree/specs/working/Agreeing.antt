@@ -14,7 +14,7 @@ use Rattle.network.specs.NetworkFile.{networkOf, junctionsOf, roadsOf, RoadArc}
 use Rattle.network.specs.working.Roads.{touches, Grouped}
 use Rattle.forest.specs.LabelFile.{parentsOf, countAt}
 use Rattle.stored.specs.Stored.{listPlace, listAt, stored}
-use Rattle.stored.specs.working.Formed.{Beside}
+use Rattle.stored.specs.working.Formed.{FilesFit}
 use Rattle.agree.specs.working.Covering.{Marking, entryOf}
 
 -- ---- The input
@@ -27,7 +27,7 @@ pub record PlacesFor (s : List ℕ) (u : ℕ) (places : List ℕ) : Type 0 where
 
 -- What is known where the stored list of v and its proper ancestor u is tested
 pub record AgreeInput (net s heads nexts places : List ℕ) (v u : ℕ) : Type 0 where
-  pub beside : Beside net s
+  pub beside : FilesFit net s
   pub grouped : Grouped net heads nexts
   pub places-for : PlacesFor s u places
   pub on-map : v < junctionsOf s
@@ -40,7 +40,7 @@ pub record Unmarked (marks : List ℕ) : Type 0 where
 
 -- What is known where road k of v is followed
 pub record RoadInput (net s places : List ℕ) (v u k : ℕ) : Type 0 where
-  pub beside : Beside net s
+  pub beside : FilesFit net s
   pub places-for : PlacesFor s u places
   pub above : Above (parentsOf s) u v
   pub stands : k < roadsOf net

@@ -10,7 +10,7 @@ use Rattle.network.specs.NetworkFile.{networkOf, junctionsOf}
 use Rattle.forest.specs.LabelFile.{parentsOf, listEnd}
 use Rattle.forest.specs.Forest.{depthOf}
 use Rattle.stored.specs.Stored.{listsBefore, placeOf, listPlace, stored}
-use Rattle.stored.specs.working.Formed.{Beside, Tables}
+use Rattle.stored.specs.working.Formed.{FilesFit, Tables}
 use Rattle.preorder.specs.working.Numbered.{Numbered}
 use Rattle.agree.specs.working.Agreeing.{AgreeInput, PlacesFor}
 
@@ -53,7 +53,7 @@ pub record MovedOn (s spots : List ℕ) (from to : ℕ) (before after : List ℕ
 
 -- Both files in form, the tables of the call, and the order of the junctions
 pub record SweepInput (net s depths starts heads nexts spots sizes order : List ℕ) : Type 0 where
-  pub beside : Beside net s
+  pub beside : FilesFit net s
   pub tables : Tables net s depths starts heads nexts
   pub numbered : Numbered s spots sizes order
 

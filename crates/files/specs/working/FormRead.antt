@@ -3,9 +3,9 @@ use mathlib.Core.Path.{_≡_}
 use mathlib.Core.List.{List}
 use Prim.Native.Nat.{ℕ}
 use lib.ListN.{length}
-use Rattle.files.specs.LabelForm.{parentsForm, listsForm, formBeside, formAlone}
+use Rattle.files.specs.LabelForm.{parentsForm, listsForm, labelsNumber, labelsNumberAlone}
 use Rattle.forest.specs.working.Fits.{DepthsFilled}
-use Rattle.stored.specs.working.Formed.{Formed, Beside, StartsFilled}
+use Rattle.stored.specs.working.Formed.{Formed, FilesFit, StartsFilled}
 
 -- r is the number of the parents; where it is 0 the depths are filled
 pub record ParentsNumbered (labels depths : List ℕ) (r : ℕ) : Type 0 where
@@ -27,12 +27,12 @@ pub record FormRead (labels depths starts : List ℕ) (form r : ℕ) : Type 0 wh
   pub depth-places : length depths ≡ 1024
   pub start-places : length starts ≡ 1024
 
--- What `form_alone` tells
-pub record AloneRead (labels depths starts : List ℕ) (r : ℕ) : Type 0 where
-  pub read : FormRead labels depths starts (formAlone labels) r
+-- What `labels_number_alone` tells
+pub record LabelsNumberedAlone (labels depths starts : List ℕ) (r : ℕ) : Type 0 where
+  pub read : FormRead labels depths starts (labelsNumberAlone labels) r
   pub formed : r ≡ 0 → Formed labels
 
--- What `form_beside` tells
-pub record BesideRead (net labels depths starts : List ℕ) (r : ℕ) : Type 0 where
-  pub read : FormRead labels depths starts (formBeside net labels) r
-  pub beside : r ≡ 0 → Beside net labels
+-- What `labels_number` tells
+pub record LabelsNumbered (net labels depths starts : List ℕ) (r : ℕ) : Type 0 where
+  pub read : FormRead labels depths starts (labelsNumber net labels) r
+  pub fit : r ≡ 0 → FilesFit net labels

@@ -11,14 +11,14 @@ use Rattle.stored.specs.working.Formed.{Tables}
 use Rattle.network.specs.Versions.{versionOne}
 use Rattle.network.specs.NetworkNumber.{netNumber}
 use Rattle.stored.specs.Right.{EveryListRight}
-use Rattle.files.specs.LabelForm.{formBeside}
+use Rattle.files.specs.LabelForm.{labelsNumber}
 use Rattle.labels.specs.Check.{Checked}
 use Rattle.labels.specs.Batch.{TripleAnswered}
 
 -- A network and labels that pass every test
 pub record Accepted (net s : List ℕ) : Type 0 where
   pub network-passes : netNumber versionOne net ≡ 0
-  pub form-passes : formBeside net s ≡ 0
+  pub form-passes : labelsNumber net s ≡ 0
   pub every-list-right : EveryListRight net s
 
 -- The check, with the tables of one call left filled where the number is 0

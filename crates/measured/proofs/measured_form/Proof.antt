@@ -19,12 +19,12 @@ returns c =
     let number = rw (c .before .before .version-one .ensures) at (c .before .net-number .ensures) in
     network-refused (λ z. omega (arith, number, z)) number
 
-form-beside-requires : tie.Need-form-beside-requires
-form-beside-requires c κs = (network-fits versionOne _ (cc), (refl, refl))
+labels-number-requires : tie.Need-labels-number-requires
+labels-number-requires c κs = (network-fits versionOne _ (cc), (refl, refl))
 
 returns-2 : tie.Need-returns-2
-returns-2 c = network-passed (cc) (c .form-beside .ensures .read .number)
+returns-2 c = network-passed (cc) (c .labels-number .ensures .read .number)
 
 pub measured-form-spec : {M : Type 1} → statement M
 measured-form-spec =
-    tie.close (tie.spec version-one-requires net-number-requires returns form-beside-requires returns-2)
+    tie.close (tie.spec version-one-requires net-number-requires returns labels-number-requires returns-2)

@@ -4,9 +4,9 @@ use mathlib.Core.List.{List}
 use Prim.Native.Nat.{ℕ}
 use Rattle.network.specs.Versions.{versionOne}
 use Rattle.network.specs.NetworkNumber.{netNumber}
-use Rattle.files.specs.LabelForm.{formBeside}
+use Rattle.files.specs.LabelForm.{labelsNumber}
 
 -- The number of the network or, where that is 0, of the labels beside it
 pub data FormNumber (net s : List ℕ) (number : ℕ) : Type 0 where
   network-refused : (netNumber versionOne net ≡ 0 → ⊥) → number ≡ netNumber versionOne net → FormNumber net s number
-  network-passed : netNumber versionOne net ≡ 0 → number ≡ formBeside net s → FormNumber net s number
+  network-passed : netNumber versionOne net ≡ 0 → number ≡ labelsNumber net s → FormNumber net s number

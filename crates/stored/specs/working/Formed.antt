@@ -43,7 +43,7 @@ pub record StartsFilled (labels starts : List ℕ) : Type 0 where
   pub start : (v : ℕ) → v < junctionsOf labels → getD starts v 0 ≡ startOf labels v
 
 -- Labels that passed 11 to 17 beside a network that passed 1 to 6
-pub record Beside (net s : List ℕ) : Type 0 where
+pub record FilesFit (net s : List ℕ) : Type 0 where
   pub network : NetworkFits net
   pub labels : Formed s
   pub one-map : junctionsOf net ≡ junctionsOf s

@@ -5,15 +5,15 @@ use borrow.Author.Needs.{needs}
 use Rattle.files.proofs.show.span_of.Statement.{statement}
 use Rattle.files.proofs.show.span_of.Tie as tie
 
-form-alone-requires : tie.Need-form-alone-requires
-form-alone-requires c κs = search needs
+labels-number-alone-requires : tie.Need-labels-number-alone-requires
+labels-number-alone-requires c κs = search needs
 
 returns : tie.Need-returns
 returns c = search (span-refused)
 
 list-span-requires : tie.Need-list-span-requires
 list-span-requires c κs =
-    let told = c .before .before .before .form-alone .ensures in
+    let told = c .before .before .before .labels-number-alone .ensures in
     let passes = c .before .before .if1 .left in
     let read = told .read in
     (sym (read .number) ∙ passes, (told .formed passes, (read .depths-filled passes, read .starts-filled passes)))
@@ -22,4 +22,4 @@ returns-2 : tie.Need-returns-2
 returns-2 c = search needs
 
 pub span-of-spec : {M : Type 1} → statement M
-span-of-spec = tie.close (tie.spec form-alone-requires returns list-span-requires returns-2)
+span-of-spec = tie.close (tie.spec labels-number-alone-requires returns list-span-requires returns-2)

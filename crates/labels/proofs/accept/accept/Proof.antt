@@ -15,8 +15,8 @@ net-number-requires c κs = search needs
 returns : tie.Need-returns
 returns c = search (network-refuses, serves-one)
 
-form-beside-requires : tie.Need-form-beside-requires
-form-beside-requires c κs = search (network-passes, serves-one)
+labels-number-requires : tie.Need-labels-number-requires
+labels-number-requires c κs = search (network-passes, serves-one)
 
 returns-2 : tie.Need-returns-2
 returns-2 c = search (labels-refuse, serves-one)
@@ -26,7 +26,7 @@ group-roads-requires c κs = search (network-passes, serves-one)
 
 exact-requires : tie.Need-exact-requires
 exact-requires c κs =
-    let form = c .before .before .before .before .before .before .before .before .before .before .form-beside .ensures in
+    let form = c .before .before .before .before .before .before .before .before .before .before .labels-number .ensures in
     let passes = c .before .before .before .before .before .before .before .before .before .if2 .left in
     (form-passes form passes, (tables-filled form passes (c .before .before .before .before .before .before .group-roads .ensures), (refl, record { marks-places = refl; each = λ i below. getD-replicate 4096 i 0 0 below })))
 
@@ -43,7 +43,7 @@ accept-spec =
     version-one-requires
     net-number-requires
     returns
-    form-beside-requires
+    labels-number-requires
     returns-2
     group-roads-requires
     exact-requires
