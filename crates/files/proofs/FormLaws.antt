@@ -3,7 +3,7 @@
 use mathlib.Core.Path.{_≡_, sym}
 use mathlib.Core.Bool.{Bool, true, _&&_}
 use mathlib.Core.List.{List}
-use Prim.Native.Nat.{ℕ, _+_, _*_, _≤_, _<_}
+use Prim.Native.Nat.{ℕ, _≤_, _<_}
 use native.Mathlib.Omega.{arith}
 use lib.Dec.{leb, eqb}
 use lib.ListN.{length}
@@ -14,7 +14,7 @@ use Rattle.bytes.specs.Bytes.{marked}
 use Rattle.network.specs.Versions.{labelsServed}
 use Rattle.network.specs.NetworkFile.{versionOf, junctionsOf, roadsOf, identityOf}
 use Rattle.network.specs.working.Fits.{NetworkFits}
-use Rattle.forest.specs.LabelFile.{entriesOf}
+use Rattle.forest.specs.LabelFile.{entriesOf, listsFrom}
 use Rattle.forest.specs.Forest.{parentsPass, roadJoins}
 use Rattle.stored.specs.Stored.{listsOf, placeOf, entriesBefore}
 use Rattle.stored.specs.ListForm.{mostBytes, listsNumber}
@@ -78,7 +78,7 @@ header-fits s e =
 pub parents-form-fit : {s : List ℕ} → junctionsOf s ≤ 1024 → parentsForm s ≡ 0 → ParentsFit s
 unfolding parentsForm
 parents-form-fit {s} few e =
-    let inside = unless-passed {test = leb (16 + 2 * junctionsOf s) (length s)} (λ z. omega arith) e in
+    let inside = unless-passed {test = leb (listsFrom s) (length s)} (λ z. omega arith) e in
     let passes = unless-passed {test = parentsPass s} {next = 0} (λ z. omega arith) (inside .1) in
     parents-fit (record { few-junctions = few; inside = leb-true _ _ (inside .0) }) (passes .0)
 

@@ -12,10 +12,10 @@ use Rattle.refusals.specs.Order.{unless, decided, every}
 use Rattle.refusals.proofs.Order.{decided-more}
 use Rattle.bytes.specs.Bytes.{marked}
 use Rattle.network.specs.Versions.{labelsServed}
-use Rattle.bytes.specs.working.Reads.{ReadU16}
-use Rattle.network.specs.NetworkFile.{junctionsOf, roadsOf, identityOf}
+use Rattle.bytes.specs.working.Reads.{Read16}
+use Rattle.network.specs.NetworkFile.{versionOf, junctionsOf, roadsOf, identityOf}
 use Rattle.network.specs.working.Fits.{NetworkFits}
-use Rattle.forest.specs.LabelFile.{entriesOf}
+use Rattle.forest.specs.LabelFile.{entriesOf, listsFrom}
 use Rattle.forest.specs.Forest.{roadJoins}
 use Rattle.stored.specs.ListForm.{mostBytes}
 use Rattle.files.specs.LabelForm.{headerForm, parentsForm, listsForm, labelForm, sameNetwork, labelsNumber, junctionsFit, labelsNumberAlone}
@@ -52,7 +52,7 @@ module _ (s : List ℕ) where
       unfolding headerForm
       header-unmarked fails = rw (le-leb 16 (length s) long, le-leb (length s) mostBytes few, ← mark-is, not-true mark fails)
 
-      module _ (has-mark : not mark ≡ false) {version : ℕ} {served : Bool} (version-is : ReadU16 s 3 version) (served-is : served ≡ labelsServed version) where
+      module _ (has-mark : not mark ≡ false) {version : ℕ} {served : Bool} (version-is : Read16 (versionOf s) version) (served-is : served ≡ labelsServed version) where
         -- what is left after 12
         after-mark : headerForm s ≡ unless served 13 0
         unfolding headerForm
@@ -76,7 +76,7 @@ module _ (s : List ℕ) {header : ℕ} (header-is : header ≡ headerForm s) (pa
 
 -- ---- 14
 
-module _ (s : List ℕ) {n : ℕ} (n-is : ReadU16 s 6 n) where
+module _ (s : List ℕ) {n : ℕ} (n-is : Read16 (junctionsOf s) n) where
   -- no junction
   pub junctions-none : n < 1 → false ≡ junctionsFit s
   junctions-none h = rw (lt-leb 1 (junctionsOf s) (omega arith))
@@ -85,7 +85,7 @@ module _ (s : List ℕ) {n : ℕ} (n-is : ReadU16 s 6 n) where
   pub junctions-some : 1 ≤ n → leb n 1024 ≡ junctionsFit s
   junctions-some h = rw (le-leb 1 (junctionsOf s) (omega arith), ← n-is .is)
 
-module _ (net s : List ℕ) {n junctions : ℕ} (n-is : ReadU16 s 6 n) (junctions-is : ReadU16 net 6 junctions) where
+module _ (net s : List ℕ) {n junctions : ℕ} (n-is : Read16 (junctionsOf s) n) (junctions-is : Read16 (junctionsOf net) junctions) where
   -- n differs
   pub other-size : (n ≡ junctions → ⊥) → false ≡ sameNetwork net s
   unfolding sameNetwork
@@ -98,22 +98,22 @@ module _ (net s : List ℕ) {n junctions : ℕ} (n-is : ReadU16 s 6 n) (junction
 
 -- ---- The parents
 
-module _ (s : List ℕ) {n : ℕ} (n-is : ReadU16 s 6 n) where
+module _ (s : List ℕ) {from : ℕ} (from-is : from ≡ listsFrom s) where
   -- 11, cut off
-  pub parents-cut : {depths : List ℕ} → length s < 16 + 2 * n → length depths ≡ 1024 → ParentsNumbered s depths 11
+  pub parents-cut : {depths : List ℕ} → length s < from → length depths ≡ 1024 → ParentsNumbered s depths 11
   unfolding parentsForm
   parents-cut h places =
       record {
-        number = rw (lt-leb (16 + 2 * junctionsOf s) (length s) (omega arith));
+        number = rw (lt-leb (listsFrom s) (length s) (omega arith));
         filled = λ z. absurd (omega arith);
         places = places;
       }
 
-  module _ (inside : 16 + 2 * n ≤ length s) {depths : List ℕ} {fine : Bool} (tested : ParentsTested s depths fine) where
+  module _ (inside : from ≤ length s) {depths : List ℕ} {fine : Bool} (tested : ParentsTested s depths fine) where
     -- what is left of parents that stand whole
     after-inside : parentsForm s ≡ unless fine 15 0
     unfolding parentsForm
-    after-inside = rw (le-leb (16 + 2 * junctionsOf s) (length s) (omega arith), ← tested .is)
+    after-inside = rw (le-leb (listsFrom s) (length s) (omega arith), ← tested .is)
 
     -- 15
     pub parents-misfit : not fine ≡ true → ParentsNumbered s depths 15

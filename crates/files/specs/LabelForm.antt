@@ -1,14 +1,14 @@
 -- What a label file is refused by, 11 to 17 (document 01, "Refusal numbers and their order").
 use mathlib.Core.Bool.{Bool, true, _&&_}
 use mathlib.Core.List.{List}
-use Prim.Native.Nat.{ℕ, _+_, _*_}
+use Prim.Native.Nat.{ℕ}
 use lib.Dec.{leb, eqb}
 use lib.ListN.{length}
 use Rattle.refusals.specs.Order.{unless, decided, every}
 use Rattle.bytes.specs.Bytes.{marked}
 use Rattle.network.specs.Versions.{labelsServed}
 use Rattle.network.specs.NetworkFile.{versionOf, junctionsOf, roadsOf, identityOf}
-use Rattle.forest.specs.LabelFile.{entriesOf}
+use Rattle.forest.specs.LabelFile.{entriesOf, listsFrom}
 use Rattle.forest.specs.Forest.{parentsPass, roadJoins}
 use Rattle.stored.specs.Stored.{listsOf, placeOf, entriesBefore}
 use Rattle.stored.specs.ListForm.{mostBytes, listsNumber}
@@ -26,7 +26,7 @@ headerForm labels =
 -- "11 (parents cut off), 15"
 unfoldable pub parentsForm : List ℕ → ℕ
 parentsForm labels =
-    unless (leb (16 + 2 * junctionsOf labels) (length labels)) 11
+    unless (leb (listsFrom labels) (length labels)) 11
     (unless (parentsPass labels) 15
     0)
 

@@ -1,9 +1,12 @@
 // The form of a label file: which number of 11 to 17 it is refused by, alone or beside a network.
 use bytes::marked;
-use bytes::u16_at;
-use bytes::u32_at;
+use forest::parents::entries_of;
 use forest::parents::fill_depths;
+use forest::parents::lists_from;
 use forest::parents::roads_join;
+use network::header::identity_of;
+use network::header::junctions_of;
+use network::header::version_of;
 use stored::stored::scan_lists;
 ghost use mathlib.Core.Path.{_≡_};
 ghost use Prim.Native.Nat.{_≤_};
@@ -38,7 +41,7 @@ fn header_form(labels: &[u8]) -> u32
     if !marked(b'T', b'L', b'B', labels) {
         return 12;
     }
-    if !labels_served(u16_at(labels, 3)) {
+    if !labels_served(version_of(labels)) {
         return 13;
     }
     0
@@ -49,7 +52,7 @@ fn junctions_fit(labels: &[u8]) -> bool
     requires { ⌜ 16 ≤ length (now labels) ⌝ }
     ensures { λ r. ⌜ r ≡ junctionsFit (now (labels .entry)) ⌝ }
 {
-    let n = u16_at(labels, 6);
+    let n = junctions_of(labels);
     if n < 1 {
         return false;
     }
@@ -62,13 +65,13 @@ fn same_network(net: &[u8], labels: &[u8]) -> bool
     requires { ⌜ 16 ≤ length (now labels) ⌝ }
     ensures { λ r. ⌜ r ≡ sameNetwork (now (net .entry)) (now (labels .entry)) ⌝ }
 {
-    let n = u16_at(labels, 6);
-    let junctions = u16_at(net, 6);
+    let n = junctions_of(labels);
+    let junctions = junctions_of(net);
     if n != junctions {
         return false;
     }
-    let identity = u32_at(labels, 12);
-    let asked = u32_at(net, 12);
+    let identity = identity_of(labels);
+    let asked = identity_of(net);
     identity == asked
 }
 
@@ -79,8 +82,7 @@ fn parents_form(labels: &[u8], depths: &mut [u32; 1024]) -> u32
     requires { ⌜ length (now depths) ≡ 1024 ⌝ }
     ensures { λ r. ⌜ ParentsNumbered (now (labels .entry)) (now (depths .exit)) r ⌝ }
 {
-    let n = u16_at(labels, 6) as usize;
-    if labels.len() < 16 + 2 * n {
+    if labels.len() < lists_from(labels) {
         return 11;
     }
     if !fill_depths(labels, depths) {
@@ -107,7 +109,7 @@ fn lists_form(labels: &[u8], depths: &[u32; 1024], starts: &mut [u32; 1024]) -> 
         return 11;
     }
     let total = scan.total;
-    let entries = u32_at(labels, 8) as usize;
+    let entries = entries_of(labels) as usize;
     if total != entries {
         return 17;
     }

@@ -1,7 +1,7 @@
 // Show: the very bytes of one stored list, handed out from the labels lent.
 use crate::form::labels_number_alone;
-use bytes::u16_at;
 use forest::parents::is_ancestor;
+use network::header::junctions_of;
 use stored::place::find_list;
 ghost use mathlib.Core.Path.{_≡_};
 ghost use Prim.Native.Nat.{_+_, _≤_, _<_};
@@ -42,7 +42,7 @@ fn list_span(labels: &[u8], depths: &[u32; 1024], starts: &[u32; 1024], v: usize
     requires { ⌜ StartsFilled (now labels) (now starts) ⌝ }
     ensures { λ r. ⌜ SpanFound (now (labels .entry)) v u (r .start) (r .end) ⌝ }
 {
-    let n = u16_at(labels, 6) as usize;
+    let n = junctions_of(labels) as usize;
     if v >= n {
         return Span { start: 0, end: 0 };
     }

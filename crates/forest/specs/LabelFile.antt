@@ -19,6 +19,10 @@ parentAt labels v = u16At labels (16 + 2 * v)
 abbrev pub noParent : ℕ
 noParent = 65535
 
+-- The byte behind the parents, where the first list starts
+abbrev pub listsFrom : List ℕ → ℕ
+listsFrom labels = 16 + 2 * junctionsOf labels
+
 -- The parents as a function; what is no junction has none
 unfoldable pub parentsOf : List ℕ → Parents
 parentsOf labels v = cond (ltb v (junctionsOf labels) && not (eqb (parentAt labels v) noParent)) (some (parentAt labels v)) none
@@ -33,6 +37,19 @@ timeAt labels at j = u32At labels (at + 2 + 8 * j)
 abbrev pub energyAt : List ℕ → ℕ → ℕ → ℕ
 energyAt labels at j = u32At labels (at + 6 + 8 * j)
 
+-- The bytes behind its count, behind its first entries, and behind the time and the energy of entry j
+abbrev pub countEnd : ℕ → ℕ
+countEnd at = at + 2
+
+abbrev pub entriesEnd : ℕ → ℕ → ℕ
+entriesEnd at count = at + 2 + 8 * count
+
+abbrev pub timeEnd : ℕ → ℕ → ℕ
+timeEnd at j = at + 6 + 8 * j
+
+abbrev pub energyEnd : ℕ → ℕ → ℕ
+energyEnd at j = at + 10 + 8 * j
+
 -- Where the next list starts
 unfoldable pub listEnd : List ℕ → ℕ → ℕ
-listEnd labels at = at + 2 + 8 * countAt labels at
+listEnd labels at = entriesEnd at (countAt labels at)

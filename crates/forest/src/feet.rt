@@ -1,7 +1,7 @@
 // The foot of a junction: one below it, or itself, that has no child. Two junctions above one foot are related, and no climb is needed to see it.
 use crate::parents::NO_PARENT;
 use crate::parents::parent_at;
-use bytes::u16_at;
+use network::header::junctions_of;
 ghost use mathlib.Core.Path.{_≡_};
 ghost use mathlib.Core.Bool.{true};
 ghost use Prim.Native.Nat.{_<_};
@@ -78,7 +78,7 @@ pub fn fill_feet(labels: &[u8], feet: &mut [u16; 1024])
     requires { ⌜ FeetRight (now labels) (now feet) ⌝ }
     ensures { λ r. ⌜ FeetRight (now (labels .entry)) (now (feet .exit)) ⌝ }
 {
-    let n = u16_at(labels, 6);
+    let n = junctions_of(labels);
     note_children(labels, feet, n);
     let end = n as usize;
     let mut v: usize = 0;
@@ -109,7 +109,7 @@ pub fn is_above(labels: &[u8], depths: &[u32; 1024], feet: &[u16; 1024], u: usiz
     requires { ⌜ v < junctionsOf (now labels) ⌝ }
     ensures { λ r. ⌜ r ≡ isAncestor (now (labels .entry)) u v ⌝ }
 {
-    let n = u16_at(labels, 6);
+    let n = junctions_of(labels);
     let mut w = v;
     while depths[u] < depths[w] {
         if one_foot(feet, n, u, w) {

@@ -4,6 +4,10 @@ use crate::feet::fill_feet;
 use crate::feet::is_above;
 use bytes::u16_at;
 use bytes::u32_at;
+use network::header::junctions_of;
+use network::header::roads_of;
+use network::roads::road_high;
+use network::roads::road_low;
 ghost use mathlib.Core.Path.{_≡_};
 ghost use mathlib.Core.Bool.{true, _&&_};
 ghost use Prim.Native.Nat.{_+_, _*_, _≤_, _<_};
@@ -11,6 +15,7 @@ ghost use lib.ListN.{length};
 ghost use Rattle.refusals.specs.Order.{every};
 ghost use Rattle.bytes.specs.working.Reads.{ReadU16};
 ghost use Rattle.network.specs.NetworkFile.{junctionsOf, roadsOf};
+ghost use Rattle.forest.specs.LabelFile.{entriesOf, listsFrom};
 ghost use Rattle.forest.specs.Forest.{depthOf, parentFits, isAncestor, roadJoins};
 ghost use Rattle.forest.specs.working.Fits.{ParentsFit, DepthsFilled};
 ghost use Rattle.network.specs.working.Fits.{NetworkFits};
@@ -23,6 +28,23 @@ pub fn parent_at(labels: &[u8], v: usize) -> u32
     ensures { λ r. ⌜ ReadU16 (now (labels .entry)) (16 + 2 * v) r ⌝ }
 {
     u16_at(labels, 16 + 2 * v)
+}
+
+// E, the count of all entries.
+pub fn entries_of(labels: &[u8]) -> u32
+    requires { ⌜ 16 ≤ length (now labels) ⌝ }
+    ensures { λ r. ⌜ r ≡ entriesOf (now (labels .entry)) ⌝ }
+{
+    u32_at(labels, 8)
+}
+
+// The byte behind the parents, where the first list starts.
+pub fn lists_from(labels: &[u8]) -> usize
+    requires { ⌜ 16 ≤ length (now labels) ⌝ }
+    ensures { λ r. ⌜ r ≡ listsFrom (now (labels .entry)) ⌝ }
+{
+    let n = junctions_of(labels) as usize;
+    16 + 2 * n
 }
 
 fn parent_fits(labels: &[u8], n: u32, v: usize) -> bool
@@ -134,7 +156,7 @@ pub fn fill_depths(labels: &[u8], depths: &mut [u32; 1024]) -> bool
     requires { ⌜ length (now depths) ≡ 1024 ⌝ }
     ensures { λ r. ⌜ ParentsTested (now (labels .entry)) (now (depths .exit)) r ⌝ }
 {
-    let n = u16_at(labels, 6);
+    let n = junctions_of(labels);
     if !parents_fit(labels, n) {
         return false;
     }
@@ -193,8 +215,8 @@ fn road_joins(net: &[u8], labels: &[u8], depths: &[u32; 1024], feet: &[u16; 1024
     requires { ⌜ k < roadsOf (now net) ⌝ }
     ensures { λ r. ⌜ r ≡ roadJoins (now (net .entry)) (now (labels .entry)) k ⌝ }
 {
-    let low = u16_at(net, 16 + 8 * k) as usize;
-    let high = u16_at(net, 18 + 8 * k) as usize;
+    let low = road_low(net, k);
+    let high = road_high(net, k);
     if is_above(labels, depths, feet, low, high) {
         return true;
     }
@@ -211,7 +233,7 @@ pub fn roads_join(net: &[u8], labels: &[u8], depths: &[u32; 1024]) -> bool
 {
     let mut feet: [u16; 1024] = [NO_CHILD; 1024];
     fill_feet(labels, &mut feet);
-    let roads = u32_at(net, 8) as usize;
+    let roads = roads_of(net) as usize;
     let mut k: usize = 0;
     while k < roads {
         if !road_joins(net, labels, depths, &feet, k) {

@@ -1,6 +1,6 @@
 // The hoplinks of a junction: itself and each proper ancestor that has a road to it or below it.
-use bytes::u32_at;
 use forest::parents::is_ancestor;
+use network::header::roads_of;
 use network::roads::road_high;
 use network::roads::road_low;
 ghost use mathlib.Core.Path.{_≡_};
@@ -75,7 +75,7 @@ pub fn mark_hoplinks(
     ensures { λ _. ⌜ HopMarks (now (net .entry)) (now (labels .entry)) l (now (marks .exit)) ⌝ }
 {
     mark_itself(wide(depths[l]), marks);
-    let roads = wide(u32_at(net, 8));
+    let roads = wide(roads_of(net));
     let mut k: usize = 0;
     while k < roads {
         let at = wide(road_mark(net, labels, depths, l, k));

@@ -1,6 +1,7 @@
 // The numbering, in one pass over the junctions for each step: chains by depth, blocks from the deepest up, spots from the roots down.
-use bytes::u16_at;
+use forest::parents::NO_PARENT;
 use forest::parents::parent_at;
+use network::header::junctions_of;
 ghost use mathlib.Core.Path.{_≡_};
 ghost use Prim.Native.Nat.{_+_, _<_};
 ghost use lib.ListN.{length};
@@ -10,8 +11,6 @@ ghost use Rattle.forest.specs.working.Fits.{ParentsFit, DepthsFilled};
 ghost use Rattle.preorder.specs.working.Numbered.{Numbered};
 ghost use Rattle.preorder.specs.working.Levels.{LevelsFrom, Levels};
 ghost use Rattle.preorder.specs.working.Blocks.{Merged, AllMerged, OffsetsSmall, Placed, Spread, Listed};
-
-const NO_PARENT: u32 = 65535;
 
 fn wide(x: u32) -> usize
     ensures { λ r. ⌜ r ≡ x ⌝ }
@@ -32,7 +31,7 @@ fn chain_levels(
     requires { ⌜ LevelsFrom (now labels) (now heads) (now nexts) (now sizes) (junctionsOf (now labels)) ⌝ }
     ensures { λ _. ⌜ LevelsFrom (now (labels .entry)) (now (heads .exit)) (now (nexts .exit)) (now (sizes .exit)) 0 ⌝ }
 {
-    let mut v = u16_at(labels, 6) as usize;
+    let mut v = junctions_of(labels) as usize;
     while v > 0 {
         v -= 1;
         let depth = wide(depths[v]);
@@ -82,7 +81,7 @@ fn merge_level(
     requires { ⌜ Merged (now labels) (now sizes) (now offsets) total (level + 1) 1024 ⌝ }
     ensures { λ r. ⌜ Merged (now (labels .entry)) (now (sizes .exit)) (now (offsets .exit)) r level 1024 ⌝ }
 {
-    let n = u16_at(labels, 6) as usize;
+    let n = junctions_of(labels) as usize;
     let mut filled = total;
     let mut v = wide(heads[level]);
     while v < n {
@@ -105,7 +104,7 @@ fn merge_all(
     requires { ⌜ Merged (now labels) (now sizes) (now offsets) 0 (junctionsOf (now labels)) 1024 ⌝ }
     ensures { λ _. ⌜ AllMerged (now (labels .entry)) (now (sizes .exit)) (now (offsets .exit)) ⌝ }
 {
-    let mut level = u16_at(labels, 6) as usize;
+    let mut level = junctions_of(labels) as usize;
     let mut total: u32 = 0;
     while level > 0 {
         level -= 1;
@@ -142,7 +141,7 @@ fn place_level(
     requires { ⌜ Placed (now labels) (now offsets) (now spots) level 0 ⌝ }
     ensures { λ _. ⌜ Placed (now (labels .entry)) (now (offsets .entry)) (now (spots .exit)) (level + 1) 0 ⌝ }
 {
-    let n = u16_at(labels, 6) as usize;
+    let n = junctions_of(labels) as usize;
     let mut v = wide(heads[level]);
     while v < n {
         place(labels, v, offsets, spots);
@@ -163,7 +162,7 @@ fn place_all(
     requires { ⌜ length (now spots) ≡ 1024 ⌝ }
     ensures { λ _. ⌜ Placed (now (labels .entry)) (now (offsets .entry)) (now (spots .exit)) (junctionsOf (now (labels .entry))) 0 ⌝ }
 {
-    let n = u16_at(labels, 6) as usize;
+    let n = junctions_of(labels) as usize;
     let mut level: usize = 0;
     while level < n {
         place_level(labels, level, heads, nexts, offsets, spots);
@@ -200,7 +199,7 @@ pub fn number(
     let mut heads: [u32; 1024] = [1024; 1024];
     let mut nexts: [u32; 1024] = [0; 1024];
     let mut offsets: [u32; 1024] = [0; 1024];
-    let n = u16_at(labels, 6) as usize;
+    let n = junctions_of(labels) as usize;
     chain_levels(labels, depths, &mut heads, &mut nexts, sizes);
     merge_all(labels, &heads, &nexts, sizes, &mut offsets);
     place_all(labels, &heads, &nexts, &offsets, spots);

@@ -10,7 +10,7 @@ use lib.Seq.{getD-set-same, getD-set-other}
 use Rattle.refusals.specs.Order.{decided, firstFault}
 use Rattle.refusals.proofs.Order.{decided-more, faultsFrom, fault-next, fault-here, fault-end}
 use Rattle.network.specs.NetworkFile.{junctionsOf}
-use Rattle.forest.specs.LabelFile.{countAt, listEnd}
+use Rattle.forest.specs.LabelFile.{listsFrom, countAt, listEnd}
 use Rattle.forest.specs.Forest.{depthOf}
 use Rattle.stored.specs.Stored.{listsBefore, listsOf, placeOf, entriesBefore}
 use Rattle.stored.specs.working.Formed.{startOf}
@@ -138,12 +138,12 @@ module _ (s : List ℕ) where
     pub noted : (w : ℕ) → w < v → getD starts w 0 ≡ startOf s w
 
   -- before the first junction
-  pub all-none : {n : ℕ} {starts : List ℕ} → ParentsFit s → n ≡ junctionsOf s → length starts ≡ 1024 → AllPassed 0 (16 + 2 * n) 0 starts
+  pub all-none : {from : ℕ} {starts : List ℕ} → ParentsFit s → from ≡ listsFrom s → length starts ≡ 1024 → AllPassed 0 from 0 starts
   unfolding listsNumber listsBefore placeOf entriesBefore
-  all-none parents is-count places =
+  all-none parents is-from places =
       record {
         few = omega arith;
-        place = ap (λ k. 16 + 2 * k) is-count;
+        place = is-from;
         inside = omega (arith, parents .inside);
         counted = refl;
         small = omega arith;

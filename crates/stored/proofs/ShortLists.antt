@@ -8,7 +8,7 @@ use lib.Dec.{leb, ltb}
 use lib.ListN.{length}
 use borrow.Author.Tests.{leb-true, ltb-true, lt-ltb, not-false}
 use Rattle.refusals.proofs.Order.{all-pass}
-use Rattle.forest.specs.LabelFile.{countAt, timeAt, energyAt, listEnd}
+use Rattle.forest.specs.LabelFile.{countAt, timeAt, energyAt, energyEnd, listEnd}
 use Rattle.stored.specs.ListForm.{mostFigure, entryNumber, listNumber}
 use Rattle.stored.specs.working.Scanned.{timeBelow, energyFrom, PassedSome}
 use Rattle.stored.specs.working.Runs.{Flagged, EnergyFollows, Leading, SingleList, Quick, OneMore}
@@ -49,7 +49,7 @@ energy-follows {before} {e} {x} small passed rises holds =
 module _ (s : List ℕ) (at : ℕ) where
   -- a first entry whose flag is 1 keeps the rules
   pub first-flagged :
-      {x y : Bool} {t e r : ℕ} → at + 10 ≤ length s → t ≡ timeAt s at 0 → x ≡ timeBelow (suc mostFigure) t → e ≡ energyAt s at 0 →
+      {x y : Bool} {t e r : ℕ} → energyEnd at 0 ≤ length s → t ≡ timeAt s at 0 → x ≡ timeBelow (suc mostFigure) t → e ≡ energyAt s at 0 →
       y ≡ energyFrom 1 e → Flagged ((x ≡ true) × (y ≡ true)) r → Flagged (entryNumber s at 0 ≡ 0) r
   first-flagged inside is-time timed is-energy tested =
       flagged-so
@@ -63,7 +63,7 @@ module _ (s : List ℕ) (at : ℕ) where
 
   -- and so does a second
   pub second-flagged :
-      {x y : Bool} {t e r before-time before-energy : ℕ} → at + 18 ≤ length s → before-time ≡ timeAt s at 0 → t ≡ timeAt s at 1 →
+      {x y : Bool} {t e r before-time before-energy : ℕ} → energyEnd at 1 ≤ length s → before-time ≡ timeAt s at 0 → t ≡ timeAt s at 1 →
       x ≡ timeBelow before-time t → before-energy ≡ energyAt s at 0 → e ≡ energyAt s at 1 → (y ≡ true → EnergyFollows before-energy e) →
       Flagged ((x ≡ true) × (y ≡ true)) r → Flagged (entryNumber s at 1 ≡ 0) r
   second-flagged inside is-before is-time timed is-first is-energy follows =
@@ -113,7 +113,7 @@ short-passes {s} {at} leads inside is short =
 
 -- a list of one entry that keeps the rules
 pub single-passes :
-    {s : List ℕ} {at count : ℕ} → at + 10 ≤ length s → count ≡ countAt s at → count ≡ 1 → entryNumber s at 0 ≡ 0 → SingleList s at
+    {s : List ℕ} {at count : ℕ} → energyEnd at 0 ≤ length s → count ≡ countAt s at → count ≡ 1 → entryNumber s at 0 ≡ 0 → SingleList s at
 single-passes {s} {at} inside is one fits = record { one = sym is ∙ one; fits = short-passes lead (omega arith) is (omega arith) }
   where
     first : (j : ℕ) → j < 1 → entryNumber s at j ≡ 0

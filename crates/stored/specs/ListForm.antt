@@ -1,13 +1,13 @@
 -- What the lists of a label file are refused by, 11 and 17 (document 01, "Refusal numbers and their order").
 use mathlib.Core.Bool.{Bool, true, _&&_}
 use mathlib.Core.List.{List}
-use Prim.Native.Nat.{ℕ, zero, suc, _+_, _*_}
+use Prim.Native.Nat.{ℕ, zero, suc}
 use lib.Dec.{leb, ltb}
 use lib.ListN.{length}
 use Rattle.refusals.specs.Order.{unless, firstFault}
 use Rattle.network.specs.Versions.{leastEnergy}
 use Rattle.network.specs.NetworkFile.{versionOf}
-use Rattle.forest.specs.LabelFile.{countAt, timeAt, energyAt}
+use Rattle.forest.specs.LabelFile.{countAt, timeAt, energyAt, countEnd, timeEnd, energyEnd}
 use Rattle.stored.specs.Stored.{listsOf, placeOf}
 
 abbrev pub mostBytes : ℕ
@@ -39,15 +39,15 @@ energyFits labels at j =
 -- "counts and numbers one by one in byte order, the first fault deciding: one cut off gives 11, one that breaks a rule 17"
 unfoldable pub entryNumber : List ℕ → ℕ → ℕ → ℕ
 entryNumber labels at j =
-    unless (leb (at + 6 + 8 * j) (length labels)) 11
+    unless (leb (timeEnd at j) (length labels)) 11
     (unless (timeFits labels at j) 17
-    (unless (leb (at + 10 + 8 * j) (length labels)) 11
+    (unless (leb (energyEnd at j) (length labels)) 11
     (unless (energyFits labels at j) 17
     0)))
 
 unfoldable pub listNumber : List ℕ → ℕ → ℕ
 listNumber labels at =
-    unless (leb (at + 2) (length labels)) 11
+    unless (leb (countEnd at) (length labels)) 11
     (unless (leb (countAt labels at) mostCount) 17
     (firstFault (entryNumber labels at) 0 (countAt labels at)))
 

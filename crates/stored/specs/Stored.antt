@@ -1,10 +1,10 @@
 -- Where each stored list stands, and what it holds (document 01: "Then for junctions 0 to n−1, for each proper ancestor from the
 -- parent upward: a 16-bit count, 0 to 4,095, and that many entries").
 use mathlib.Core.List.{List, [], _∷_}
-use Prim.Native.Nat.{ℕ, zero, suc, _+_, _-_, _*_}
+use Prim.Native.Nat.{ℕ, zero, suc, _+_, _-_}
 use Rattle.paths.specs.Weights.{weights, energy, pair}
 use Rattle.network.specs.NetworkFile.{junctionsOf}
-use Rattle.forest.specs.LabelFile.{countAt, timeAt, energyAt, listEnd}
+use Rattle.forest.specs.LabelFile.{listsFrom, countAt, timeAt, energyAt, listEnd}
 use Rattle.forest.specs.Forest.{depthOf}
 
 -- How many lists the junctions below v have: one for each proper ancestor
@@ -17,7 +17,7 @@ listsOf labels = listsBefore labels (junctionsOf labels)
 
 -- The byte where list number g starts: the lists stand one after another behind the parents
 unfoldable pub placeOf : List ℕ → ℕ → ℕ
-placeOf labels zero = 16 + 2 * junctionsOf labels
+placeOf labels zero = listsFrom labels
 placeOf labels (suc g) = listEnd labels (placeOf labels g)
 
 -- The byte where the list of v and its proper ancestor u starts

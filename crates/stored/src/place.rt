@@ -1,5 +1,6 @@
 // A reading place in the label file: it moves from list to list, and each move yields the next place.
-use bytes::u16_at;
+use crate::stored::count_at;
+use crate::stored::entries_end;
 ghost use mathlib.Core.Path.{_≡_};
 ghost use Prim.Native.Nat.{_+_, _≤_, _<_};
 ghost use lib.ListN.{length, getD};
@@ -24,7 +25,7 @@ impl Place {
         ensures { λ r. ⌜ ReadU16 (now (labels .entry)) (self .at) r ⌝ }
     {
         let at = self.at;
-        u16_at(labels, at)
+        count_at(labels, at)
     }
 
     // The place of the next list.
@@ -34,9 +35,9 @@ impl Place {
         ensures { λ r. ⌜ r .at ≡ listEnd (now (labels .entry)) (self .at) ⌝ }
     {
         let at = self.at;
-        let count = u16_at(labels, at) as usize;
+        let count = count_at(labels, at) as usize;
         Place {
-            at: at + 2 + 8 * count,
+            at: entries_end(at, count),
         }
     }
 }

@@ -1,17 +1,19 @@
 // Runs of short lists, passed with few tests: lists of one entry each, and lists of at most two. A list that ends a run is left to the whole test.
 use crate::stored::LEAST_ENERGY;
 use crate::stored::MOST_FIGURE;
+use crate::stored::count_at;
 use crate::stored::energy_at;
 use crate::stored::energy_fits;
+use crate::stored::entries_end;
 use crate::stored::time_at;
 use crate::stored::time_fits;
-use bytes::u16_at;
 use paths::energy::Energy;
 use paths::seconds::Seconds;
 ghost use mathlib.Core.Path.{_≡_};
 ghost use mathlib.Core.Bool.{true};
-ghost use Prim.Native.Nat.{_+_, _*_, _≤_, _<_};
+ghost use Prim.Native.Nat.{_≤_, _<_};
 ghost use lib.ListN.{length};
+ghost use Rattle.forest.specs.LabelFile.{energyEnd};
 ghost use Rattle.stored.specs.ListForm.{mostBytes, mostCount, entryNumber};
 ghost use Rattle.stored.specs.working.Scanned.{PassedSome};
 ghost use Rattle.stored.specs.working.Runs.{Flagged, EnergyFollows, Leading, SingleList, Quick, OneMore};
@@ -36,7 +38,7 @@ impl Run {
         let entries = count as usize;
         Run {
             lists: self.lists + 1,
-            at: self.at + 2 + 8 * entries,
+            at: entries_end(self.at, entries),
             total: self.total + entries,
         }
     }
@@ -71,7 +73,7 @@ fn energy_follows(before: Energy, energy: Energy) -> bool
 
 // 1 if the first entry keeps the rules.
 fn first_entry(labels: &[u8], at: usize) -> u32
-    requires { ⌜ at + 10 ≤ length (now labels) ⌝ }
+    requires { ⌜ energyEnd at 0 ≤ length (now labels) ⌝ }
     ensures { λ r. ⌜ Flagged (entryNumber (now (labels .entry)) at 0 ≡ 0) r ⌝ }
 {
     let time = time_at(labels, at, 0);
@@ -84,7 +86,7 @@ fn first_entry(labels: &[u8], at: usize) -> u32
 
 // 1 if the second does.
 fn second_entry(labels: &[u8], at: usize) -> u32
-    requires { ⌜ at + 18 ≤ length (now labels) ⌝ }
+    requires { ⌜ energyEnd at 1 ≤ length (now labels) ⌝ }
     ensures { λ r. ⌜ Flagged (entryNumber (now (labels .entry)) at 1 ≡ 0) r ⌝ }
 {
     let time = time_at(labels, at, 1);
@@ -97,7 +99,7 @@ fn second_entry(labels: &[u8], at: usize) -> u32
 
 // How many of the first two places for entries hold some that keep the rules, up to the first that does not.
 fn leading(labels: &[u8], at: usize) -> u32
-    requires { ⌜ at + 18 ≤ length (now labels) ⌝ }
+    requires { ⌜ energyEnd at 1 ≤ length (now labels) ⌝ }
     ensures { λ r. ⌜ Leading (now (labels .entry)) at r ⌝ }
 {
     let first = first_entry(labels, at);
@@ -107,10 +109,10 @@ fn leading(labels: &[u8], at: usize) -> u32
 
 // Whether the list at a byte has one entry, which keeps the rules.
 fn single_fits(labels: &[u8], at: usize) -> bool
-    requires { ⌜ at + 10 ≤ length (now labels) ⌝ }
+    requires { ⌜ energyEnd at 0 ≤ length (now labels) ⌝ }
     ensures { λ r. ⌜ (r ≡ true → SingleList (now (labels .entry)) at) ⌝ }
 {
-    if u16_at(labels, at) != 1 {
+    if count_at(labels, at) != 1 {
         return false;
     }
     first_entry(labels, at) == 1
@@ -163,7 +165,7 @@ pub fn pass_short(labels: &[u8], at: usize, lists: u32, total: usize) -> Run
     };
     while run.lists < end {
         let here = run.at;
-        let count = u16_at(labels, here);
+        let count = count_at(labels, here);
         if leading(labels, here) < count {
             return run;
         }

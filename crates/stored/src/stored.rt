@@ -4,13 +4,16 @@ use crate::runs::pass_short;
 use crate::runs::pass_single;
 use bytes::u16_at;
 use bytes::u32_at;
+use forest::parents::lists_from;
+use network::header::junctions_of;
 use paths::energy::Energy;
 use paths::seconds::Seconds;
 ghost use mathlib.Core.Path.{_≡_};
-ghost use Prim.Native.Nat.{_+_, _*_, _≤_, _<_};
+ghost use Prim.Native.Nat.{_≤_, _<_};
 ghost use lib.ListN.{length};
 ghost use Rattle.refusals.specs.Order.{firstFault};
-ghost use Rattle.forest.specs.LabelFile.{countAt, timeAt, energyAt, listEnd};
+ghost use Rattle.bytes.specs.working.Reads.{Read16};
+ghost use Rattle.forest.specs.LabelFile.{countAt, timeAt, energyAt, countEnd, entriesEnd, timeEnd, energyEnd, listEnd};
 ghost use Rattle.stored.specs.ListForm.{mostBytes, mostCount, entryNumber, listNumber};
 ghost use Rattle.forest.specs.working.Fits.{ParentsFit, DepthsFilled};
 ghost use Rattle.stored.specs.working.Scanned.{timeCeiling, timeBelow, energyFrom, Inside, ScannedSome, Scanned, Loaded};
@@ -24,9 +27,25 @@ pub const LEAST_ENERGY: u32 = 1;
 
 pub const MOST_FIGURE: u32 = 67042305;
 
-// The time of entry j of the list at a byte.
+// How many entries the list at a byte has.
+pub fn count_at(labels: &[u8], at: usize) -> u32
+    requires { ⌜ countEnd at ≤ length (now labels) ⌝ }
+    ensures { λ r. ⌜ Read16 (countAt (now (labels .entry)) at) r ⌝ }
+{
+    u16_at(labels, at)
+}
+
+// The byte behind so many entries of it.
+pub fn entries_end(at: usize, count: usize) -> usize
+    requires { ⌜ (at ≤ mostBytes) × (count < 65536) ⌝ }
+    ensures { λ r. ⌜ r ≡ entriesEnd at count ⌝ }
+{
+    at + 2 + 8 * count
+}
+
+// The time of entry j.
 pub fn time_at(labels: &[u8], at: usize, j: usize) -> Seconds
-    requires { ⌜ at + 6 + 8 * j ≤ length (now labels) ⌝ }
+    requires { ⌜ timeEnd at j ≤ length (now labels) ⌝ }
     ensures { λ r. ⌜ r .0 ≡ timeAt (now (labels .entry)) at j ⌝ }
 {
     Seconds(u32_at(labels, at + 2 + 8 * j))
@@ -34,7 +53,7 @@ pub fn time_at(labels: &[u8], at: usize, j: usize) -> Seconds
 
 // Its energy.
 pub fn energy_at(labels: &[u8], at: usize, j: usize) -> Energy
-    requires { ⌜ at + 10 + 8 * j ≤ length (now labels) ⌝ }
+    requires { ⌜ energyEnd at j ≤ length (now labels) ⌝ }
     ensures { λ r. ⌜ r .0 ≡ energyAt (now (labels .entry)) at j ⌝ }
 {
     Energy(u32_at(labels, at + 6 + 8 * j))
@@ -65,7 +84,7 @@ pub fn energy_fits(floor: Energy, energy: Energy) -> bool
 
 // What entry j's time stays below.
 fn time_ceiling(labels: &[u8], at: usize, j: usize) -> Seconds
-    requires { ⌜ at + 6 + 8 * j ≤ length (now labels) ⌝ }
+    requires { ⌜ timeEnd at j ≤ length (now labels) ⌝ }
     ensures { λ r. ⌜ r .0 ≡ timeCeiling (now (labels .entry)) at j ⌝ }
 {
     if j == 0 {
@@ -78,7 +97,7 @@ fn time_ceiling(labels: &[u8], at: usize, j: usize) -> Seconds
 fn cut_entry_number(labels: &[u8], at: usize, j: usize) -> u32
     requires { ⌜ (at ≤ length (now labels)) × (length (now labels) ≤ mostBytes) ⌝ }
     requires { ⌜ j ≤ mostCount ⌝ }
-    requires { ⌜ length (now labels) < at + 10 + 8 * j ⌝ }
+    requires { ⌜ length (now labels) < energyEnd at j ⌝ }
     ensures { λ r. ⌜ r ≡ entryNumber (now (labels .entry)) at j ⌝ }
 {
     if labels.len() < at + 6 + 8 * j {
@@ -92,7 +111,7 @@ fn cut_entry_number(labels: &[u8], at: usize, j: usize) -> u32
 
 // The number of the first entries of a list, all of which stand whole in the file. Each is read once.
 fn entries_number(labels: &[u8], at: usize, whole: usize) -> u32
-    requires { ⌜ at + 2 + 8 * whole ≤ length (now labels) ⌝ }
+    requires { ⌜ entriesEnd at whole ≤ length (now labels) ⌝ }
     ensures { λ r. ⌜ r ≡ firstFault (entryNumber (now (labels .entry)) at) 0 whole ⌝ }
 {
     let mut ceiling = Seconds(MOST_FIGURE + 1);
@@ -133,7 +152,7 @@ pub fn list_number(labels: &[u8], at: usize) -> u32
     if labels.len() < at + 2 {
         return 11;
     }
-    let count = u16_at(labels, at) as usize;
+    let count = count_at(labels, at) as usize;
     if count > MOST_COUNT {
         return 17;
     }
@@ -207,8 +226,8 @@ pub fn scan_lists(labels: &[u8], depths: &[u32; 1024], starts: &mut [u32; 1024])
     requires { ⌜ length (now starts) ≡ 1024 ⌝ }
     ensures { λ r. ⌜ Scanned (now (labels .entry)) (now (starts .exit)) (r .number) (r .at) (r .total) ⌝ }
 {
-    let n = u16_at(labels, 6) as usize;
-    let mut at = 16 + 2 * n;
+    let n = junctions_of(labels) as usize;
+    let mut at = lists_from(labels);
     let mut total: usize = 0;
     let mut v: usize = 0;
     while v < n {
@@ -236,7 +255,7 @@ pub fn load(labels: &[u8], at: usize, times: &mut [u32], energies: &mut [u32]) -
     requires { ⌜ countAt (now labels) at ≤ length (now energies) ⌝ }
     ensures { λ r. ⌜ Loaded (now (labels .entry)) at (now (times .entry)) (now (energies .entry)) (now (times .exit)) (now (energies .exit)) r ⌝ }
 {
-    let count = u16_at(labels, at) as usize;
+    let count = count_at(labels, at) as usize;
     let mut j: usize = 0;
     while j < count {
         let time = time_at(labels, at, j);

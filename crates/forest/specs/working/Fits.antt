@@ -2,15 +2,16 @@
 use mathlib.Core.Path.{_≡_}
 use mathlib.Core.Bool.{true}
 use mathlib.Core.List.{List}
-use Prim.Native.Nat.{ℕ, _+_, _*_, _≤_, _<_}
+use Prim.Native.Nat.{ℕ, _≤_, _<_}
 use lib.ListN.{length, getD}
 use Rattle.network.specs.NetworkFile.{junctionsOf}
+use Rattle.forest.specs.LabelFile.{listsFrom}
 use Rattle.forest.specs.Forest.{depthOf, parentFits}
 
 -- Parents that passed 15
 pub record ParentsFit (labels : List ℕ) : Type 0 where
   pub few-junctions : junctionsOf labels ≤ 1024
-  pub inside : 16 + 2 * junctionsOf labels ≤ length labels
+  pub inside : listsFrom labels ≤ length labels
   pub fits : (v : ℕ) → v < junctionsOf labels → parentFits labels v ≡ true
   pub ends : (v : ℕ) → v < junctionsOf labels → depthOf labels v < junctionsOf labels
 

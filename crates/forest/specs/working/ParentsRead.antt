@@ -2,16 +2,17 @@
 use mathlib.Core.Path.{_≡_}
 use mathlib.Core.Bool.{Bool, true, false}
 use mathlib.Core.List.{List}
-use Prim.Native.Nat.{ℕ, _+_, _*_, _≤_, _<_}
+use Prim.Native.Nat.{ℕ, _≤_, _<_}
 use lib.ListN.{length, getD}
 use Rattle.network.specs.NetworkFile.{junctionsOf}
+use Rattle.forest.specs.LabelFile.{listsFrom}
 use Rattle.forest.specs.Forest.{depthOf, ancestorOf, isAncestor, parentFits, parentsPass}
 use Rattle.forest.specs.working.Fits.{DepthsFilled}
 
 -- The parents of a file that passed 14 and has them all
 pub record ParentsStand (labels : List ℕ) : Type 0 where
   pub few-junctions : junctionsOf labels ≤ 1024
-  pub inside : 16 + 2 * junctionsOf labels ≤ length labels
+  pub inside : listsFrom labels ≤ length labels
 
 -- Junction v, from which the parents may be followed; n is the count of junctions
 pub record Climbable (labels : List ℕ) (n v : ℕ) : Type 0 where

@@ -2,7 +2,7 @@
 use mathlib.Core.Path.{_≡_}
 use mathlib.Core.List.{List}
 use Prim.Native.Nat.{ℕ, _+_, _*_, _≤_, _<_}
-use Rattle.forest.specs.LabelFile.{countAt}
+use Rattle.forest.specs.LabelFile.{countAt, entriesEnd}
 use Rattle.stored.specs.ListForm.{mostFigure, entryNumber, listNumber}
 
 -- At most 1, and 1 only if the fact holds
@@ -33,5 +33,5 @@ pub record Quick (bytes lists r : ℕ) : Type 0 where
 -- A run of lists and one list more, of so many entries
 pub record OneMore (lists at total count : ℕ) (more behind sum : ℕ) : Type 0 where
   pub listed : more ≡ lists + 1
-  pub place : behind ≡ at + 2 + 8 * count
+  pub place : behind ≡ entriesEnd at count
   pub counted : sum ≡ total + count

@@ -17,8 +17,8 @@ marked-requires c κs = search needs
 returns-3 : tie.Need-returns-3
 returns-3 c = search (header-unmarked)
 
-u16-at-requires : tie.Need-u16-at-requires
-u16-at-requires c κs = search needs
+version-of-requires : tie.Need-version-of-requires
+version-of-requires c κs = search needs
 
 labels-served-requires : tie.Need-labels-served-requires
 labels-served-requires c κs = search needs
@@ -37,7 +37,7 @@ header-form-spec =
     returns-2
     marked-requires
     returns-3
-    u16-at-requires
+    version-of-requires
     labels-served-requires
     returns-4
     returns-5)

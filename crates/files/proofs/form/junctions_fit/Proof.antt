@@ -4,8 +4,8 @@ use borrow.Author.Needs.{needs}
 use Rattle.files.proofs.form.junctions_fit.Statement.{statement}
 use Rattle.files.proofs.form.junctions_fit.Tie as tie
 
-u16-at-requires : tie.Need-u16-at-requires
-u16-at-requires c κs = search needs
+junctions-of-requires : tie.Need-junctions-of-requires
+junctions-of-requires c κs = search needs
 
 returns : tie.Need-returns
 returns c = search (junctions-none)
@@ -14,4 +14,4 @@ returns-2 : tie.Need-returns-2
 returns-2 c = search (junctions-some)
 
 pub junctions-fit-spec : {M : Type 1} → statement M
-junctions-fit-spec = tie.close (tie.spec u16-at-requires returns returns-2)
+junctions-fit-spec = tie.close (tie.spec junctions-of-requires returns returns-2)

@@ -13,8 +13,8 @@ returns c = lists-fault _ (c .before .scan-lists .ensures) (c .if1 .taken)
 returns-2 : tie.Need-returns-2
 returns-2 c = lists-bytes-left _ (c .before .before .scan-lists .ensures) (c .before .if1 .left) (c .if2 .taken)
 
-u32-at-requires : tie.Need-u32-at-requires
-u32-at-requires c κs = search needs
+entries-of-requires : tie.Need-entries-of-requires
+entries-of-requires c κs = search needs
 
 cast-entries : tie.Need-cast-entries
 cast-entries c = search needs
@@ -22,13 +22,13 @@ cast-entries c = search needs
 returns-3 : tie.Need-returns-3
 returns-3 c =
     let ended = c .before .before in
-    lists-entries _ (ended .before .before .scan-lists .ensures) (ended .before .if1 .left) (ended .if2 .left) (c .before .u32-at .ensures)
+    lists-entries _ (ended .before .before .scan-lists .ensures) (ended .before .if1 .left) (ended .if2 .left) (c .before .entries-of .ensures)
     (c .if3 .taken)
 
 returns-4 : tie.Need-returns-4
 returns-4 c =
     let ended = c .before .before in
-    lists-pass _ (ended .before .before .scan-lists .ensures) (ended .before .if1 .left) (ended .if2 .left) (c .before .u32-at .ensures)
+    lists-pass _ (ended .before .before .scan-lists .ensures) (ended .before .if1 .left) (ended .if2 .left) (c .before .entries-of .ensures)
     (c .if3 .left)
 
 pub lists-form-spec : {M : Type 1} → statement M
@@ -38,7 +38,7 @@ lists-form-spec =
     scan-lists-requires
     returns
     returns-2
-    u32-at-requires
+    entries-of-requires
     cast-entries
     returns-3
     returns-4)

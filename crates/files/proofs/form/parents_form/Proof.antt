@@ -4,17 +4,8 @@ use borrow.Author.Needs.{needs}
 use Rattle.files.proofs.form.parents_form.Statement.{statement}
 use Rattle.files.proofs.form.parents_form.Tie as tie
 
-u16-at-requires : tie.Need-u16-at-requires
-u16-at-requires c κs = search needs
-
-cast-n : tie.Need-cast-n
-cast-n c = search needs
-
-mul-if1 : tie.Need-mul-if1
-mul-if1 c = search needs
-
-add-if1 : tie.Need-add-if1
-add-if1 c = search needs
+lists-from-requires : tie.Need-lists-from-requires
+lists-from-requires c κs = search needs
 
 returns : tie.Need-returns
 returns c = search (parents-cut)
@@ -32,10 +23,7 @@ pub parents-form-spec : {M : Type 1} → statement M
 parents-form-spec =
     tie.close
     (tie.spec
-    u16-at-requires
-    cast-n
-    mul-if1
-    add-if1
+    lists-from-requires
     returns
     fill-depths-requires
     returns-2

@@ -5,8 +5,8 @@ use borrow.Author.Needs.{needs}
 use Rattle.files.proofs.show.list_span.Statement.{statement}
 use Rattle.files.proofs.show.list_span.Tie as tie
 
-u16-at-requires : tie.Need-u16-at-requires
-u16-at-requires c κs = search needs
+junctions-of-requires : tie.Need-junctions-of-requires
+junctions-of-requires c κs = search needs
 
 cast-n : tie.Need-cast-n
 cast-n c = search needs
@@ -42,7 +42,7 @@ pub list-span-spec : {M : Type 1} → statement M
 list-span-spec =
     tie.close
     (tie.spec
-    u16-at-requires
+    junctions-of-requires
     cast-n
     returns
     returns-2

@@ -11,8 +11,8 @@ Inv-loop labels feet₀ n end v₀ feet v = FeetRight labels feet
 abbrev μ-loop : tie.MeasureT-loop
 μ-loop labels feet₀ n end v₀ feet v = end - v
 
-u16-at-requires : tie.Need-u16-at-requires Inv-loop μ-loop
-u16-at-requires c κs = search needs
+junctions-of-requires : tie.Need-junctions-of-requires Inv-loop μ-loop
+junctions-of-requires c κs = search needs
 
 note-children-requires : tie.Need-note-children-requires Inv-loop μ-loop
 note-children-requires c κs = search needs
@@ -44,7 +44,7 @@ fill-feet-spec =
     (tie.spec
     Inv-loop
     μ-loop
-    u16-at-requires
+    junctions-of-requires
     note-children-requires
     cast-end
     loop-holds

@@ -12,8 +12,8 @@ Inv-loop labels depths feet u v n w₀ w = Lifting labels u v w
 abbrev μ-loop : tie.MeasureT-loop
 μ-loop labels depths feet u v n w₀ w = depthOf labels w
 
-u16-at-requires : tie.Need-u16-at-requires Inv-loop μ-loop
-u16-at-requires c κs = search needs
+junctions-of-requires : tie.Need-junctions-of-requires Inv-loop μ-loop
+junctions-of-requires c κs = search needs
 
 loop-holds : tie.Need-loop-holds Inv-loop μ-loop
 loop-holds c = search needs
@@ -37,7 +37,7 @@ returns : tie.Need-returns Inv-loop μ-loop
 returns c =
     let turn = c .before .before .before .before .before in
     let given = turn .before .before .before .pre in
-    lifting-meets (given .0) (given .1 .0) (given .1 .1 .1 .0) (turn .loop .inv) (given .1 .1 .0) (turn .before .u16-at .ensures .is)
+    lifting-meets (given .0) (given .1 .0) (given .1 .1 .1 .0) (turn .loop .inv) (given .1 .1 .0) (turn .before .junctions-of .ensures .is)
     (c .before .before .if1 .taken) (c .before .one-foot .ensures (c .if2 .taken))
 
 parent-at-requires : tie.Need-parent-at-requires Inv-loop μ-loop
@@ -70,7 +70,7 @@ is-above-spec =
     (tie.spec
     Inv-loop
     μ-loop
-    u16-at-requires
+    junctions-of-requires
     loop-holds
     mul-if1
     element-copy-out-if1

@@ -11,8 +11,8 @@ Inv-loop labels depths₀ n end v₀ depths v = Filling labels depths v
 abbrev μ-loop : tie.MeasureT-loop
 μ-loop labels depths₀ n end v₀ depths v = end - v
 
-u16-at-requires : tie.Need-u16-at-requires Inv-loop μ-loop
-u16-at-requires c κs = search needs
+junctions-of-requires : tie.Need-junctions-of-requires Inv-loop μ-loop
+junctions-of-requires c κs = search needs
 
 parents-fit-requires : tie.Need-parents-fit-requires Inv-loop μ-loop
 parents-fit-requires c κs = search needs
@@ -53,7 +53,7 @@ fill-depths-spec =
     (tie.spec
     Inv-loop
     μ-loop
-    u16-at-requires
+    junctions-of-requires
     parents-fit-requires
     returns
     forget-depths-requires

@@ -5,29 +5,11 @@ use borrow.Author.Needs.{needs}
 use Rattle.forest.proofs.parents.road_joins.Statement.{statement}
 use Rattle.forest.proofs.parents.road_joins.Tie as tie
 
-mul-u16-at : tie.Need-mul-u16-at
-mul-u16-at c = search needs
+road-low-requires : tie.Need-road-low-requires
+road-low-requires c κs = search needs
 
-add-u16-at : tie.Need-add-u16-at
-add-u16-at c = search needs
-
-u16-at-requires : tie.Need-u16-at-requires
-u16-at-requires c κs = search needs
-
-cast-low : tie.Need-cast-low
-cast-low c = search needs
-
-mul-u16-at-2 : tie.Need-mul-u16-at-2
-mul-u16-at-2 c = search needs
-
-add-u16-at-2 : tie.Need-add-u16-at-2
-add-u16-at-2 c = search needs
-
-u16-at-requires-2 : tie.Need-u16-at-requires-2
-u16-at-requires-2 c κs = search needs
-
-cast-high : tie.Need-cast-high
-cast-high c = search needs
+road-high-requires : tie.Need-road-high-requires
+road-high-requires c κs = search needs
 
 is-above-requires : tie.Need-is-above-requires
 is-above-requires c κs =
@@ -49,14 +31,8 @@ pub road-joins-spec : {M : Type 1} → statement M
 road-joins-spec =
     tie.close
     (tie.spec
-    mul-u16-at
-    add-u16-at
-    u16-at-requires
-    cast-low
-    mul-u16-at-2
-    add-u16-at-2
-    u16-at-requires-2
-    cast-high
+    road-low-requires
+    road-high-requires
     is-above-requires
     returns
     is-above-requires-2

@@ -18,8 +18,8 @@ abbrev μ-loop : tie.MeasureT-loop
 fill-feet-requires : tie.Need-fill-feet-requires Inv-loop μ-loop
 fill-feet-requires c κs = search (feet-none, needs)
 
-u32-at-requires : tie.Need-u32-at-requires Inv-loop μ-loop
-u32-at-requires c κs = search needs
+roads-of-requires : tie.Need-roads-of-requires Inv-loop μ-loop
+roads-of-requires c κs = search needs
 
 cast-roads : tie.Need-cast-roads Inv-loop μ-loop
 cast-roads c = search needs
@@ -55,7 +55,7 @@ roads-join-spec =
     Inv-loop
     μ-loop
     fill-feet-requires
-    u32-at-requires
+    roads-of-requires
     cast-roads
     loop-holds
     road-joins-requires

@@ -29,8 +29,8 @@ mark-itself-requires c κs =
     let start = c .before .before .before .before .before in
     (omega (arith, depths-small (start .pre .0 .labels .parents) (start .pre .1) (start .args .l) (start .args .l) (start .pre .2) (start .pre .2)), search needs)
 
-u32-at-requires : tie.Need-u32-at-requires Inv-loop μ-loop
-u32-at-requires c κs = search needs
+roads-of-requires : tie.Need-roads-of-requires Inv-loop μ-loop
+roads-of-requires c κs = search needs
 
 wide-requires-2 : tie.Need-wide-requires-2 Inv-loop μ-loop
 wide-requires-2 c κs = search needs
@@ -77,7 +77,7 @@ mark-hoplinks-spec =
     element-copy-out-wide
     wide-requires
     mark-itself-requires
-    u32-at-requires
+    roads-of-requires
     wide-requires-2
     loop-holds
     road-mark-requires

@@ -15,14 +15,14 @@ Inv-loop labels depths heads₀ nexts₀ sizes₀ v₀ heads nexts sizes v = (v 
 abbrev μ-loop : tie.MeasureT-loop
 μ-loop labels depths heads₀ nexts₀ sizes₀ v₀ heads nexts sizes v = v
 
-u16-at-requires : tie.Need-u16-at-requires Inv-loop μ-loop
-u16-at-requires c κs = search needs
+junctions-of-requires : tie.Need-junctions-of-requires Inv-loop μ-loop
+junctions-of-requires c κs = search needs
 
 cast-v : tie.Need-cast-v Inv-loop μ-loop
 cast-v c = search needs
 
 loop-holds : tie.Need-loop-holds Inv-loop μ-loop
-loop-holds c = (omega arith, rw (c .u16-at .ensures .is) (c .before .before .pre .1 .1))
+loop-holds c = (omega arith, rw (c .junctions-of .ensures .is) (c .before .before .pre .1 .1))
 
 sub-v : tie.Need-sub-v Inv-loop μ-loop
 sub-v c = search needs
@@ -120,7 +120,7 @@ chain-levels-spec =
     (tie.spec
     Inv-loop
     μ-loop
-    u16-at-requires
+    junctions-of-requires
     cast-v
     loop-holds
     sub-v

@@ -15,14 +15,14 @@ Inv-loop labels heads nexts sizes₀ offsets₀ level₀ total₀ sizes offsets 
 abbrev μ-loop : tie.MeasureT-loop
 μ-loop labels heads nexts sizes₀ offsets₀ level₀ total₀ sizes offsets level total = level
 
-u16-at-requires : tie.Need-u16-at-requires Inv-loop μ-loop
-u16-at-requires c κs = search needs
+junctions-of-requires : tie.Need-junctions-of-requires Inv-loop μ-loop
+junctions-of-requires c κs = search needs
 
 cast-level : tie.Need-cast-level Inv-loop μ-loop
 cast-level c = search needs
 
 loop-holds : tie.Need-loop-holds Inv-loop μ-loop
-loop-holds c = (omega arith, merged-as (c .before .before .pre .1 .1) (sym (c .u16-at .ensures .is)))
+loop-holds c = (omega arith, merged-as (c .before .before .pre .1 .1) (sym (c .junctions-of .ensures .is)))
 
 sub-level : tie.Need-sub-level Inv-loop μ-loop
 sub-level c = search needs
@@ -48,7 +48,7 @@ merge-all-spec =
     (tie.spec
     Inv-loop
     μ-loop
-    u16-at-requires
+    junctions-of-requires
     cast-level
     loop-holds
     sub-level

@@ -16,8 +16,8 @@ Inv-loop labels level heads nexts total sizes₀ offsets₀ n filled₀ v₀ siz
 abbrev μ-loop : tie.MeasureT-loop
 μ-loop labels level heads nexts total sizes₀ offsets₀ n filled₀ v₀ sizes offsets filled v = 1024 - v
 
-u16-at-requires : tie.Need-u16-at-requires Inv-loop μ-loop
-u16-at-requires c κs = search needs
+junctions-of-requires : tie.Need-junctions-of-requires Inv-loop μ-loop
+junctions-of-requires c κs = search needs
 
 cast-n : tie.Need-cast-n Inv-loop μ-loop
 cast-n c = search needs
@@ -80,7 +80,7 @@ merge-level-spec =
     (tie.spec
     Inv-loop
     μ-loop
-    u16-at-requires
+    junctions-of-requires
     cast-n
     mul-wide
     element-copy-out-wide

@@ -8,8 +8,8 @@ use borrow.Author.Needs.{needs}
 use Rattle.preorder.proofs.number.number.Statement.{statement}
 use Rattle.preorder.proofs.number.number.Tie as tie
 
-u16-at-requires : tie.Need-u16-at-requires
-u16-at-requires c κs = search needs
+junctions-of-requires : tie.Need-junctions-of-requires
+junctions-of-requires c κs = search needs
 
 cast-n : tie.Need-cast-n
 cast-n c = search needs
@@ -54,7 +54,7 @@ pub number-spec : {M : Type 1} → statement M
 number-spec =
     tie.close
     (tie.spec
-    u16-at-requires
+    junctions-of-requires
     cast-n
     chain-levels-requires
     merge-all-requires

@@ -14,8 +14,8 @@ Inv-loop labels heads nexts offsets spots₀ n level₀ spots level = (level ≤
 abbrev μ-loop : tie.MeasureT-loop
 μ-loop labels heads nexts offsets spots₀ n level₀ spots level = junctionsOf labels - level
 
-u16-at-requires : tie.Need-u16-at-requires Inv-loop μ-loop
-u16-at-requires c κs = search needs
+junctions-of-requires : tie.Need-junctions-of-requires Inv-loop μ-loop
+junctions-of-requires c κs = search needs
 
 cast-n : tie.Need-cast-n Inv-loop μ-loop
 cast-n c = search needs
@@ -44,7 +44,7 @@ place-all-spec =
     (tie.spec
     Inv-loop
     μ-loop
-    u16-at-requires
+    junctions-of-requires
     cast-n
     loop-holds
     place-level-requires

@@ -16,8 +16,8 @@ Inv-loop labels level heads nexts offsets spots₀ n v₀ spots v = First labels
 abbrev μ-loop : tie.MeasureT-loop
 μ-loop labels level heads nexts offsets spots₀ n v₀ spots v = 1024 - v
 
-u16-at-requires : tie.Need-u16-at-requires Inv-loop μ-loop
-u16-at-requires c κs = search needs
+junctions-of-requires : tie.Need-junctions-of-requires Inv-loop μ-loop
+junctions-of-requires c κs = search needs
 
 cast-n : tie.Need-cast-n Inv-loop μ-loop
 cast-n c = search needs
@@ -80,7 +80,7 @@ place-level-spec =
     (tie.spec
     Inv-loop
     μ-loop
-    u16-at-requires
+    junctions-of-requires
     cast-n
     mul-wide
     element-copy-out-wide

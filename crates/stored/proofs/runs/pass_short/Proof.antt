@@ -21,8 +21,8 @@ quick-lists-requires c κs = search needs
 loop-holds : tie.Need-loop-holds Inv-loop μ-loop
 loop-holds c = search (running-none, needs)
 
-u16-at-requires : tie.Need-u16-at-requires Inv-loop μ-loop
-u16-at-requires c κs = search needs
+count-at-requires : tie.Need-count-at-requires Inv-loop μ-loop
+count-at-requires c κs = search needs
 
 leading-requires : tie.Need-leading-requires Inv-loop μ-loop
 leading-requires c κs = search needs
@@ -40,7 +40,7 @@ loop-again : tie.Need-loop-again Inv-loop μ-loop
 loop-again c =
     let turn = c .before .before .before .before in
     let lead = c .before .before .leading .ensures in
-    let count-is = c .before .before .before .u16-at .ensures .is in
+    let count-is = c .before .before .before .count-at .ensures .is in
     running-more (turn .before .before .loop .inv) (turn .if1 .taken) (short-passes lead (omega arith) count-is (c .before .if2 .left)) count-is
     (omega (arith, lead .few)) (c .more .ensures)
 
@@ -56,7 +56,7 @@ pass-short-spec =
     sub-quick-lists
     quick-lists-requires
     loop-holds
-    u16-at-requires
+    count-at-requires
     leading-requires
     returns
     more-requires

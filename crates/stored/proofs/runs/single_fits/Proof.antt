@@ -7,8 +7,8 @@ use borrow.Author.Needs.{needs}
 use Rattle.stored.proofs.runs.single_fits.Statement.{statement}
 use Rattle.stored.proofs.runs.single_fits.Tie as tie
 
-u16-at-requires : tie.Need-u16-at-requires
-u16-at-requires c κs = search needs
+count-at-requires : tie.Need-count-at-requires
+count-at-requires c κs = search needs
 
 returns : tie.Need-returns
 returns c = λ e. absurd (false≢true e)
@@ -18,7 +18,7 @@ first-entry-requires c κs = search needs
 
 returns-2 : tie.Need-returns-2
 returns-2 c =
-    λ e. single-passes (omega arith) (c .before .before .u16-at .ensures .is) (omega arith) (c .first-entry .ensures .holds (omega (arith, eqb-true (c .first-entry .result) 1 e)))
+    λ e. single-passes (omega arith) (c .before .before .count-at .ensures .is) (omega arith) (c .first-entry .ensures .holds (omega (arith, eqb-true (c .first-entry .result) 1 e)))
 
 pub single-fits-spec : {M : Type 1} → statement M
-single-fits-spec = tie.close (tie.spec u16-at-requires returns first-entry-requires returns-2)
+single-fits-spec = tie.close (tie.spec count-at-requires returns first-entry-requires returns-2)

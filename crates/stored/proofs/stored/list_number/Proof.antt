@@ -11,14 +11,14 @@ add-if1 c = search needs
 returns : tie.Need-returns
 returns c = list-cut _ _ (c .if1 .taken)
 
-u16-at-requires : tie.Need-u16-at-requires
-u16-at-requires c κs = search needs
+count-at-requires : tie.Need-count-at-requires
+count-at-requires c κs = search needs
 
 cast-count : tie.Need-cast-count
 cast-count c = search needs
 
 returns-2 : tie.Need-returns-2
-returns-2 c = list-long _ _ (c .before .before .if1 .left) (c .before .u16-at .ensures .is) (omega arith)
+returns-2 c = list-long _ _ (c .before .before .if1 .left) (c .before .count-at .ensures .is) (omega arith)
 
 sub-entries-inside : tie.Need-sub-entries-inside
 sub-entries-inside c = search needs
@@ -35,13 +35,13 @@ entries-number-requires c κs = search needs
 returns-3 : tie.Need-returns-3
 returns-3 c =
     let passed = c .before .before .before in
-    list-faulty _ _ (passed .before .before .if1 .left) (passed .before .u16-at .ensures .is) (omega arith)
+    list-faulty _ _ (passed .before .before .if1 .left) (passed .before .count-at .ensures .is) (omega arith)
     (c .before .before .entries-inside .ensures) (c .before .entries-number .ensures) (c .if3 .taken)
 
 returns-4 : tie.Need-returns-4
 returns-4 c =
     let passed = c .before .before .before .before in
-    list-passes _ _ (passed .before .before .if1 .left) (passed .before .u16-at .ensures .is) (omega arith)
+    list-passes _ _ (passed .before .before .if1 .left) (passed .before .count-at .ensures .is) (omega arith)
     (c .before .before .before .entries-inside .ensures) (c .before .before .entries-number .ensures) (c .before .if3 .left) (c .if4 .taken)
 
 cut-entry-number-requires : tie.Need-cut-entry-number-requires
@@ -52,7 +52,7 @@ cut-entry-number-requires c κs =
 returns-5 : tie.Need-returns-5
 returns-5 c =
     let passed = c .before .before .before .before .before in
-    list-cut-entry _ _ (passed .before .before .if1 .left) (passed .before .u16-at .ensures .is) (omega arith)
+    list-cut-entry _ _ (passed .before .before .if1 .left) (passed .before .count-at .ensures .is) (omega arith)
     (c .before .before .before .before .entries-inside .ensures) (c .before .before .before .entries-number .ensures)
     (c .before .before .if3 .left) (c .before .if4 .left) (c .cut-entry-number .ensures)
 
@@ -62,7 +62,7 @@ list-number-spec =
     (tie.spec
     add-if1
     returns
-    u16-at-requires
+    count-at-requires
     cast-count
     returns-2
     sub-entries-inside

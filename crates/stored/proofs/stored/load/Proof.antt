@@ -14,9 +14,9 @@ Inv-loop labels at times₀ energies₀ count j₀ times energies j =
 abbrev μ-loop : tie.MeasureT-loop
 μ-loop labels at times₀ energies₀ count j₀ times energies j = count - j
 
-u16-at-requires : tie.Need-u16-at-requires Inv-loop μ-loop
+count-at-requires : tie.Need-count-at-requires Inv-loop μ-loop
 unfolding listEnd
-u16-at-requires c κs = search needs
+count-at-requires c κs = search needs
 
 cast-count : tie.Need-cast-count Inv-loop μ-loop
 cast-count c = search needs
@@ -79,7 +79,7 @@ load-spec =
     (tie.spec
     Inv-loop
     μ-loop
-    u16-at-requires
+    count-at-requires
     cast-count
     loop-holds
     time-at-requires

@@ -13,22 +13,19 @@ Inv-loop labels depths starts₀ n at₀ total₀ v₀ starts at total v = AllPa
 abbrev μ-loop : tie.MeasureT-loop
 μ-loop labels depths starts₀ n at₀ total₀ v₀ starts at total v = n - v
 
-u16-at-requires : tie.Need-u16-at-requires Inv-loop μ-loop
-u16-at-requires c κs = search needs
+junctions-of-requires : tie.Need-junctions-of-requires Inv-loop μ-loop
+junctions-of-requires c κs = search needs
 
 cast-n : tie.Need-cast-n Inv-loop μ-loop
 cast-n c = search needs
 
-mul-at : tie.Need-mul-at Inv-loop μ-loop
-mul-at c = search needs
-
-add-at : tie.Need-add-at Inv-loop μ-loop
-add-at c = search needs
+lists-from-requires : tie.Need-lists-from-requires Inv-loop μ-loop
+lists-from-requires c κs = search needs
 
 loop-holds : tie.Need-loop-holds Inv-loop μ-loop
 loop-holds c =
-    let pre = c .before .before .pre in
-    all-none _ (pre .0) (c .u16-at .ensures .is) (pre .1 .1 .1)
+    let pre = c .before .before .before .pre in
+    all-none _ (pre .0) (c .lists-from .ensures) (pre .1 .1 .1)
 
 cast-starts : tie.Need-cast-starts Inv-loop μ-loop
 cast-starts c = search needs
@@ -51,7 +48,7 @@ scan-junction-requires c κs = search needs
 returns : tie.Need-returns Inv-loop μ-loop
 returns c =
     let turn = c .before .before .before .before in
-    all-fault _ (turn .before .loop .inv) (omega arith) (turn .before .before .before .before .pre .1 .0) refl
+    all-fault _ (turn .before .loop .inv) (omega arith) (turn .before .before .before .before .before .pre .1 .0) refl
     (c .before .before .scan-junction .ensures) (c .if1 .taken)
 
 add-v : tie.Need-add-v Inv-loop μ-loop
@@ -63,7 +60,7 @@ loop-less c = search needs
 loop-again : tie.Need-loop-again Inv-loop μ-loop
 loop-again c =
     let turn = c .before .before .before .before in
-    let pre = turn .before .before .before .before .pre in
+    let pre = turn .before .before .before .before .before .pre in
     all-more _ (turn .before .loop .inv) (omega arith) (pre .1 .0) refl (c .before .before .scan-junction .ensures)
     (pre .0 .few-junctions) (c .if1 .left)
 
@@ -76,10 +73,9 @@ scan-lists-spec =
     (tie.spec
     Inv-loop
     μ-loop
-    u16-at-requires
+    junctions-of-requires
     cast-n
-    mul-at
-    add-at
+    lists-from-requires
     loop-holds
     cast-starts
     mul-starts
