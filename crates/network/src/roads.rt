@@ -3,14 +3,18 @@ use bytes::u16_at;
 use bytes::u32_at;
 use paths::energy::Energy;
 use paths::seconds::Seconds;
+use tables::FIRSTS;
+use tables::NEXTS;
+use tables::entry_at;
 ghost use mathlib.Core.Path.{_≡_};
 ghost use mathlib.Core.Bool.{true};
 ghost use Prim.Native.Nat.{suc, _+_, _*_, _≤_, _<_};
-ghost use lib.ListN.{length};
+ghost use lib.ListN.{length, getD};
+ghost use Rattle.tables.specs.working.Layout.{firstsFrom, tablePlaces, StaysBelow};
 ghost use Rattle.bytes.specs.working.Reads.{ReadU16};
 ghost use Rattle.network.specs.NetworkFile.{roadsOf};
 ghost use Rattle.network.specs.working.Roads.{touches, nextRoad, Grouped};
-ghost use Rattle.network.specs.working.RoadsRead.{ReadOther, NextsFilled, FilledBelow, GroupedFrom};
+ghost use Rattle.network.specs.working.RoadsRead.{ReadOther, FirstsFilled, GroupedFrom};
 ghost use Rattle.network.specs.working.Fits.{NetworkFits};
 
 // The lower end of road k.
@@ -59,58 +63,60 @@ pub fn other_end(net: &[u8], v: usize, k: usize) -> usize
 }
 
 // Every junction's first road is the one behind the last: none.
-fn clear_heads(none: u32, heads: &mut [u32; 1024])
-    requires { ⌜ length (now heads) ≡ 1024 ⌝ }
-    ensures { λ _. ⌜ FilledBelow (now (heads .exit)) none 1024 ⌝ }
+fn clear_firsts(none: u32, tables: &mut [u32; 13312])
+    requires { ⌜ length (now tables) ≡ tablePlaces ⌝ }
+    ensures { λ _. ⌜ FirstsFilled (now (tables .entry)) (now (tables .exit)) none 1024 ⌝ }
 {
     let mut v: usize = 0;
     while v < 1024 {
-        heads[v] = none;
+        tables[FIRSTS + v] = none;
         v += 1;
     }
 }
 
 // Puts road k before the roads of its two ends.
-fn put_road(net: &[u8], k: usize, heads: &mut [u32; 1024], nexts: &mut [u32; 8192])
-    requires { ⌜ NetworkFits (now net) × (k < roadsOf (now net)) × GroupedFrom (now net) (now heads) (now nexts) (k + 1) ⌝ }
-    ensures { λ _. ⌜ GroupedFrom (now (net .entry)) (now (heads .exit)) (now (nexts .exit)) k ⌝ }
+fn put_road(net: &[u8], k: usize, tables: &mut [u32; 13312])
+    requires { ⌜ NetworkFits (now net) × (k < roadsOf (now net)) × GroupedFrom (now net) (now tables) (k + 1) ⌝ }
+    ensures { λ _. ⌜ GroupedFrom (now (net .entry)) (now (tables .exit)) k × StaysBelow firstsFrom (now (tables .entry)) (now (tables .exit)) ⌝ }
 {
     let low = road_low(net, k);
     let high = road_high(net, k);
-    nexts[2 * k] = heads[low];
-    nexts[2 * k + 1] = heads[high];
-    heads[low] = k as u32;
-    heads[high] = k as u32;
+    tables[NEXTS + 2 * k] = tables[FIRSTS + low];
+    tables[NEXTS + 2 * k + 1] = tables[FIRSTS + high];
+    tables[FIRSTS + low] = k as u32;
+    tables[FIRSTS + high] = k as u32;
 }
 
 // Groups the roads by junction: from the last road to the first, so that each junction's roads come in file order.
-pub fn group_roads(net: &[u8], heads: &mut [u32; 1024], nexts: &mut [u32; 8192])
-    requires { ⌜ NetworkFits (now net) × (length (now heads) ≡ 1024) × (length (now nexts) ≡ 8192) ⌝ }
-    ensures { λ _. ⌜ Grouped (now (net .entry)) (now (heads .exit)) (now (nexts .exit)) ⌝ }
+pub fn group_roads(net: &[u8], tables: &mut [u32; 13312])
+    requires { ⌜ NetworkFits (now net) × (length (now tables) ≡ tablePlaces) ⌝ }
+    ensures { λ _. ⌜ Grouped (now (net .entry)) (now (tables .exit)) × StaysBelow firstsFrom (now (tables .entry)) (now (tables .exit)) ⌝ }
 {
     let roads = u32_at(net, 8);
-    clear_heads(roads, heads);
+    clear_firsts(roads, tables);
     let mut k = roads as usize;
     while k > 0 {
         k -= 1;
-        put_road(net, k, heads, nexts);
+        put_road(net, k, tables);
     }
 }
 
-fn wide(x: u32) -> usize
-    ensures { λ r. ⌜ r ≡ x ⌝ }
+// The first road of v.
+pub fn first_road(tables: &[u32; 13312], v: usize) -> usize
+    requires { ⌜ (length (now tables) ≡ tablePlaces) × (v < 1024) ⌝ }
+    ensures { λ r. ⌜ r ≡ getD (now (tables .entry)) (firstsFrom + v) 0 ⌝ }
 {
-    x as usize
+    entry_at(tables, FIRSTS + v)
 }
 
 // The road of v that follows road k.
-pub fn next_road(net: &[u8], nexts: &[u32; 8192], v: usize, k: usize) -> usize
-    requires { ⌜ NetworkFits (now net) × NextsFilled (now net) (now nexts) × (k < roadsOf (now net)) × (touches (now net) v k ≡ true) ⌝ }
+pub fn next_road(net: &[u8], tables: &[u32; 13312], v: usize, k: usize) -> usize
+    requires { ⌜ NetworkFits (now net) × Grouped (now net) (now tables) × (k < roadsOf (now net)) × (touches (now net) v k ≡ true) ⌝ }
     ensures { λ r. ⌜ r ≡ nextRoad (now (net .entry)) v (suc k) ⌝ }
 {
     let low = road_low(net, k);
     if low == v {
-        return wide(nexts[2 * k]);
+        return entry_at(tables, NEXTS + 2 * k);
     }
-    wide(nexts[2 * k + 1])
+    entry_at(tables, NEXTS + 2 * k + 1)
 }
