@@ -15,7 +15,7 @@ use Rattle.forest.specs.working.Fits.{ParentsFit}
 use Rattle.forest.proofs.Chains.{IsRoot, root?, depth-none, depth-some, Climbed, one-up, climbed}
 use Rattle.forest.proofs.Forest.{parents-some, ancestor-is-up, above-is-up}
 use Rattle.preorder.specs.working.Numbered.{Numbered}
-use Rattle.preorder.specs.working.Blocks.{Apart, AllMerged, Placed, Spread, Listed}
+use Rattle.preorder.specs.working.Blocks.{Apart, AllMerged, Placed, Spread, Listed, CopiedBelow}
 use Rattle.preorder.proofs.Onto.{Hit, onto}
 
 -- ---- Blocks that nest
@@ -212,20 +212,25 @@ module _ {s spots sizes : List ℕ} (fit : ParentsFit s) (nest : Nested s spots 
             (block-below u v h k (omega arith, omega (arith, nest .itself u h)));
       }
 
-  -- with the junctions listed by their spots, it is whole
-  numbered : {order : List ℕ} → length spots ≡ 1024 → length sizes ≡ 1024 → Listed spots order (junctionsOf s) → Numbered s spots sizes order
-  numbered {order} spot-places size-places listed =
+  -- with the junctions listed by their spots and all copied to the table, it is whole
+  numbered :
+      {order before tables : List ℕ} →
+      Listed spots order (junctionsOf s) →
+      CopiedBelow order spots sizes before tables (junctionsOf s) →
+      Numbered s tables
+  numbered {order} {before} {tables} listed copied =
       record {
-        spots-length = spot-places;
-        sizes-length = size-places;
-        order-length = listed .places;
-        at-spot = listed .at-spot;
-        spot-below = spread .below;
-        on-map = λ i h. let z = hit i h in rw (stands z) (z .below);
-        spot-of = λ i h. let z = hit i h in rw (stands z) (z .is);
-        block-inside = λ v h. block-inside (depthOf s v) v h refl;
-        in-block = λ u v h k. in-block u v k;
-        block-below = λ u v h k from to. block-below u v h k (from, to);
+        places = copied .places;
+        at-spot = λ v h. rw (copied .spot v h) (copied .junction (getD spots v 0) (spread .below v h) ∙ listed .at-spot v h);
+        spot-below = λ v h. rw (copied .spot v h) (spread .below v h);
+        on-map = λ i h. rw (copied .junction i h) (listed-on-map i h);
+        spot-of = λ i h. rw (copied .junction i h, copied .spot (getD order i 0) (listed-on-map i h)) (let z = hit i h in rw (stands z) (z .is));
+        block-inside = λ v h. rw (copied .spot v h, copied .size v h) (block-inside (depthOf s v) v h refl);
+        in-block = λ u v h k above. omega (arith, copied .spot u h, copied .spot v k, copied .size u h, in-block u v k above);
+        block-below =
+            λ u v h k from to.
+            block-below u v h k
+            (omega (arith, copied .spot u h, copied .spot v k), omega (arith, copied .spot u h, copied .spot v k, copied .size u h));
       }
     where
       -- every spot is some junction's
@@ -235,6 +240,9 @@ module _ {s spots sizes : List ℕ} (fit : ParentsFit s) (nest : Nested s spots 
       stands : {i : ℕ} (z : Hit (λ v. getD spots v 0) (junctionsOf s) i) → getD order i 0 ≡ z .at
       stands z = rw (← z .is) (listed .at-spot (z .at) (z .below))
 
+      listed-on-map : (i : ℕ) → i < junctionsOf s → getD order i 0 < junctionsOf s
+      listed-on-map i h = let z = hit i h in rw (stands z) (z .below)
+
 -- what merging and placing leave
 module _
     {s spots sizes offsets : List ℕ} {n : ℕ} (fit : ParentsFit s) (merged : AllMerged s sizes offsets)
@@ -243,6 +251,6 @@ module _
     pub placed-spread : Spread n spots
     placed-spread = rw size (spread fit (nested fit merged placed))
 
-    pub listed-numbered : {order : List ℕ} → Listed spots order n → Numbered s spots sizes order
-    listed-numbered listed =
-        numbered fit (nested fit merged placed) (placed .places) (merged .size-places) (rw size at listed)
+    pub listed-numbered :
+        {order before tables : List ℕ} → Listed spots order n → CopiedBelow order spots sizes before tables n → Numbered s tables
+    listed-numbered listed copied = numbered fit (nested fit merged placed) (rw size at listed) (rw size at copied)

@@ -1,19 +1,22 @@
 -- Spots are found from the roots down.
--- In this order: no junction yet; one junction more; a level; the order.
+-- In this order: no junction yet; one junction more; a level; the order; the copy.
 use mathlib.Core.Path.{_≡_, refl, sym, ap, _∙_}
+use mathlib.Core.Logic.{_⊎_, inl, inr, ⊎-elim}
 use mathlib.Core.List.{List}
 use Prim.Native.Nat.{ℕ, _+_, _*_, _≤_, _<_}
 use native.Mathlib.Decide.{ℕ-discrete, decLt}
 use native.Mathlib.Omega.{arith}
 use lib.ListN.{length, getD, set, length-set}
 use lib.Seq.{getD-set-same, getD-set-other}
+use Rattle.tables.specs.working.Layout.{orderFrom, spotsFrom, sizesFrom, tablePlaces}
+use Rattle.tables.proofs.Stays.{stays-all, stays-set}
 use Rattle.network.specs.NetworkFile.{junctionsOf}
 use Rattle.forest.specs.LabelFile.{parentAt, noParent}
 use Rattle.forest.specs.Forest.{depthOf}
 use Rattle.forest.specs.working.Fits.{ParentsFit}
 use Rattle.forest.proofs.Chains.{Climbed, one-up}
 use Rattle.preorder.specs.working.Levels.{First, Higher}
-use Rattle.preorder.specs.working.Blocks.{OffsetsSmall, Placed, Spread, Listed}
+use Rattle.preorder.specs.working.Blocks.{OffsetsSmall, Placed, Spread, Listed, CopiedBelow}
 
 -- ---- No junction yet
 
@@ -172,3 +175,80 @@ listed-more {spots} {order} {n} {v} {spot} spread now below is =
 
 pub listed-all : {spots order : List ℕ} {n v : ℕ} → Listed spots order v → n ≤ v → Listed spots order n
 listed-all now all = record { places = now .places; at-spot = λ w h. now .at-spot w (omega arith) }
+
+-- ---- The copy
+
+-- nothing is copied yet
+pub copied-none : {order spots sizes tables : List ℕ} → length tables ≡ tablePlaces → CopiedBelow order spots sizes tables tables 0
+copied-none {tables = tables} places =
+    record {
+      places = places;
+      junction = λ i h. absurd (omega arith);
+      spot = λ v h. absurd (omega arith);
+      size = λ v h. absurd (omega arith);
+      lower-stay = stays-all orderFrom tables;
+    }
+
+-- The first n of a list stand in the table from a place on
+record Copied (from : ℕ) (list tables : List ℕ) (n : ℕ) : Type 0 where
+  each : (j : ℕ) → j < n → getD tables (from + j) 0 ≡ getD list j 0
+
+module _ {from n : ℕ} {list tables : List ℕ} (copied : Copied from list tables n) where
+  -- one more
+  one-more : from + n < length tables → Copied from list (set tables (from + n) (getD list n 0)) (n + 1)
+  one-more inside = record { each = λ j below. pick j below (ℕ-discrete j n) }
+    where
+      pick : (j : ℕ) → j < n + 1 → Dec (j ≡ n) → getD (set tables (from + n) (getD list n 0)) (from + j) 0 ≡ getD list j 0
+      pick j below (yes same) = rw same (getD-set-same tables (from + n) (getD list n 0) 0 inside)
+      pick j below (no other) =
+          getD-set-other tables (from + n) (from + j) (getD list n 0) 0 (λ e. other (omega arith)) ∙ copied .each j (omega arith)
+
+  -- a number written before or behind them
+  elsewhere : (at x : ℕ) → (at < from) ⊎ (from + n ≤ at) → Copied from list (set tables at x) n
+  elsewhere at x away =
+      record { each = λ j below. getD-set-other tables at (from + j) x 0 (λ e. ⊎-elim (λ h. omega arith) (λ h. omega arith) away) ∙ copied .each j below }
+
+-- one of each more
+pub copied-more :
+    {order spots sizes before tables : List ℕ} {i : ℕ} →
+    CopiedBelow order spots sizes before tables i →
+    i < 1024 →
+    CopiedBelow
+    order
+    spots
+    sizes
+    before
+    (set (set (set tables (orderFrom + i) (getD order i 0)) (spotsFrom + i) (getD spots i 0)) (sizesFrom + i) (getD sizes i 0))
+    (i + 1)
+copied-more {order} {spots} {sizes} {before} {tables} {i} copied h =
+    record {
+      places = simp length-set (copied .places);
+      junction = elsewhere (elsewhere (one-more junctions (omega (arith, copied .places))) (spotsFrom + i) _ (inr (omega arith))) (sizesFrom + i) _ (inr (omega arith)) .each;
+      spot = elsewhere (one-more (elsewhere spotted (orderFrom + i) (getD order i 0) (inl (omega arith))) (simp length-set (omega (arith, copied .places)))) (sizesFrom + i) _ (inr (omega arith)) .each;
+      size = one-more (elsewhere (elsewhere sized (orderFrom + i) (getD order i 0) (inl (omega arith))) (spotsFrom + i) (getD spots i 0) (inl (omega arith))) (simp length-set (omega (arith, copied .places))) .each;
+      lower-stay =
+          stays-set
+          (sizesFrom + i)
+          _
+          (stays-set (spotsFrom + i) _ (stays-set (orderFrom + i) _ (copied .lower-stay) (omega arith)) (omega arith))
+          (omega arith);
+    }
+  where
+    junctions : Copied orderFrom order tables i
+    junctions = record { each = copied .junction }
+
+    spotted : Copied spotsFrom spots tables i
+    spotted = record { each = copied .spot }
+
+    sized : Copied sizesFrom sizes tables i
+    sized = record { each = copied .size }
+
+pub copied-all : {order spots sizes before tables : List ℕ} {n i : ℕ} → CopiedBelow order spots sizes before tables i → n ≤ i → CopiedBelow order spots sizes before tables n
+copied-all copied all =
+    record {
+      places = copied .places;
+      junction = λ j h. copied .junction j (omega arith);
+      spot = λ j h. copied .spot j (omega arith);
+      size = λ j h. copied .size j (omega arith);
+      lower-stay = copied .lower-stay;
+    }

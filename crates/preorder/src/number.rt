@@ -2,15 +2,19 @@
 use forest::parents::NO_PARENT;
 use forest::parents::parent_at;
 use network::header::junctions_of;
+use tables::ORDER;
+use tables::SIZES;
+use tables::SPOTS;
 ghost use mathlib.Core.Path.{_≡_};
-ghost use Prim.Native.Nat.{_+_, _<_};
+ghost use Prim.Native.Nat.{_+_, _≤_, _<_};
 ghost use lib.ListN.{length};
+ghost use Rattle.tables.specs.working.Layout.{orderFrom, tablePlaces, StaysBelow};
 ghost use Rattle.network.specs.NetworkFile.{junctionsOf};
 ghost use Rattle.forest.specs.Forest.{depthOf};
 ghost use Rattle.forest.specs.working.Fits.{ParentsFit, DepthsFilled};
 ghost use Rattle.preorder.specs.working.Numbered.{Numbered};
 ghost use Rattle.preorder.specs.working.Levels.{LevelsFrom, Levels};
-ghost use Rattle.preorder.specs.working.Blocks.{Merged, AllMerged, OffsetsSmall, Placed, Spread, Listed};
+ghost use Rattle.preorder.specs.working.Blocks.{Merged, AllMerged, OffsetsSmall, Placed, Spread, Listed, CopiedBelow};
 
 fn wide(x: u32) -> usize
     ensures { λ r. ⌜ r ≡ x ⌝ }
@@ -183,25 +187,44 @@ fn list_order(n: usize, spots: &[u32; 1024], order: &mut [u32; 1024])
     }
 }
 
-// The numbering of all junctions.
-pub fn number(
-    labels: &[u8],
-    depths: &[u32; 1024],
-    spots: &mut [u32; 1024],
-    sizes: &mut [u32; 1024],
-    order: &mut [u32; 1024],
+// Copies what is known of the first n junctions and spots to the lent table.
+fn copy_numbering(
+    n: usize,
+    order: &[u32; 1024],
+    spots: &[u32; 1024],
+    sizes: &[u32; 1024],
+    tables: &mut [u32; 13312],
 )
+    requires { ⌜ (n ≤ 1024) × (length (now tables) ≡ tablePlaces) ⌝ }
+    requires { ⌜ (length (now order) ≡ 1024) × (length (now spots) ≡ 1024) × (length (now sizes) ≡ 1024) ⌝ }
+    ensures { λ _. ⌜ CopiedBelow (now (order .entry)) (now (spots .entry)) (now (sizes .entry)) (now (tables .entry)) (now (tables .exit)) n ⌝ }
+{
+    let mut i: usize = 0;
+    while i < n {
+        tables[ORDER + i] = order[i];
+        tables[SPOTS + i] = spots[i];
+        tables[SIZES + i] = sizes[i];
+        i += 1;
+    }
+}
+
+// The numbering of all junctions, into the lent table.
+pub fn number(labels: &[u8], depths: &[u32; 1024], tables: &mut [u32; 13312])
     requires { ⌜ ParentsFit (now labels) ⌝ }
     requires { ⌜ DepthsFilled (now labels) (now depths) ⌝ }
-    requires { ⌜ (length (now spots) ≡ 1024) × (length (now sizes) ≡ 1024) × (length (now order) ≡ 1024) ⌝ }
-    ensures { λ _. ⌜ Numbered (now (labels .entry)) (now (spots .exit)) (now (sizes .exit)) (now (order .exit)) ⌝ }
+    requires { ⌜ length (now tables) ≡ tablePlaces ⌝ }
+    ensures { λ _. ⌜ Numbered (now (labels .entry)) (now (tables .exit)) × StaysBelow orderFrom (now (tables .entry)) (now (tables .exit)) ⌝ }
 {
     let mut heads: [u32; 1024] = [1024; 1024];
     let mut nexts: [u32; 1024] = [0; 1024];
     let mut offsets: [u32; 1024] = [0; 1024];
+    let mut order: [u32; 1024] = [0; 1024];
+    let mut spots: [u32; 1024] = [0; 1024];
+    let mut sizes: [u32; 1024] = [0; 1024];
     let n = junctions_of(labels) as usize;
-    chain_levels(labels, depths, &mut heads, &mut nexts, sizes);
-    merge_all(labels, &heads, &nexts, sizes, &mut offsets);
-    place_all(labels, &heads, &nexts, &offsets, spots);
-    list_order(n, spots, order);
+    chain_levels(labels, depths, &mut heads, &mut nexts, &mut sizes);
+    merge_all(labels, &heads, &nexts, &mut sizes, &mut offsets);
+    place_all(labels, &heads, &nexts, &offsets, &mut spots);
+    list_order(n, &spots, &mut order);
+    copy_numbering(n, &order, &spots, &sizes, tables);
 }

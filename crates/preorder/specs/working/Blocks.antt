@@ -4,6 +4,7 @@ use mathlib.Core.Logic.{_⊎_}
 use mathlib.Core.List.{List, [], _∷_}
 use Prim.Native.Nat.{ℕ, _+_, _*_, _≤_, _<_}
 use lib.ListN.{length, getD}
+use Rattle.tables.specs.working.Layout.{orderFrom, spotsFrom, sizesFrom, tablePlaces, StaysBelow}
 use Rattle.network.specs.NetworkFile.{junctionsOf}
 use Rattle.forest.specs.LabelFile.{parentAt, noParent}
 use Rattle.forest.specs.Forest.{depthOf}
@@ -85,3 +86,11 @@ pub record Spread (n : ℕ) (spots : List ℕ) : Type 0 where
 pub record Listed (spots order : List ℕ) (n : ℕ) : Type 0 where
   pub places : length order ≡ 1024
   pub at-spot : (v : ℕ) → v < n → getD order (getD spots v 0) 0 ≡ v
+
+-- The first n of order, spots and sizes stand in the lent table, of which nothing below them was written
+pub record CopiedBelow (order spots sizes before tables : List ℕ) (n : ℕ) : Type 0 where
+  pub places : length tables ≡ tablePlaces
+  pub junction : (i : ℕ) → i < n → getD tables (orderFrom + i) 0 ≡ getD order i 0
+  pub spot : (v : ℕ) → v < n → getD tables (spotsFrom + v) 0 ≡ getD spots v 0
+  pub size : (v : ℕ) → v < n → getD tables (sizesFrom + v) 0 ≡ getD sizes v 0
+  pub lower-stay : StaysBelow orderFrom before tables
