@@ -8,6 +8,7 @@ use native.Mathlib.Nat.{add-zero, add-suc}
 use native.Mathlib.Numerals.{add-one}
 use native.Mathlib.Decide.{ℕ-discrete}
 use lib.ListN.{length, getD}
+use Rattle.tables.specs.working.Layout.{startsFrom, firstsFrom, StaysBelow}
 use Rattle.network.specs.NetworkFile.{junctionsOf}
 use Rattle.forest.specs.LabelFile.{countAt, listEnd}
 use Rattle.forest.specs.Forest.{depthOf}
@@ -168,10 +169,19 @@ pub deeper-in-table :
     getD depths u 0 < getD depths v 0
 deeper-in-table {v} {u} filled on-map u-on-map h = omega (arith, filled .depth v on-map, filled .depth u u-on-map)
 
+-- the parts behind the starts may be written
+pub starts-stay :
+    {s before after : List ℕ} → junctionsOf s ≤ 1024 → StaysBelow firstsFrom before after → StartsFilled s before → StartsFilled s after
+starts-stay few kept filled =
+    record {
+      places = kept .one-length ∙ filled .places;
+      start = λ v on-map. kept .stays (startsFrom + v) (omega arith) ∙ filled .start v on-map;
+    }
+
 -- the way is read from the two tables
 pub way-read :
-    {s depths starts : List ℕ} {v u start deep shallow : ℕ} → DepthsFilled s depths → StartsFilled s starts → v < junctionsOf s →
-    u < junctionsOf s → depthOf s u < depthOf s v → deep ≡ getD depths v 0 → shallow ≡ getD depths u 0 → start ≡ getD starts v 0 →
+    {s depths tables : List ℕ} {v u start deep shallow : ℕ} → DepthsFilled s depths → StartsFilled s tables → v < junctionsOf s →
+    u < junctionsOf s → depthOf s u < depthOf s v → deep ≡ getD depths v 0 → shallow ≡ getD depths u 0 → start ≡ getD tables (startsFrom + v) 0 →
     Way s v u start (deep - shallow - 1)
 way-read {v} {u} depths-filled starts-filled on-map u-on-map h deep shallow start =
     record {

@@ -9,6 +9,7 @@ use lib.ListN.{length, getD, set, length-set}
 use lib.Seq.{getD-set-same, getD-set-other}
 use Rattle.refusals.specs.Order.{decided, firstFault}
 use Rattle.refusals.proofs.Order.{decided-more, faultsFrom, fault-next, fault-here, fault-end}
+use Rattle.tables.specs.working.Layout.{startsFrom, tablePlaces}
 use Rattle.network.specs.NetworkFile.{junctionsOf}
 use Rattle.forest.specs.LabelFile.{listsFrom, countAt, listEnd}
 use Rattle.forest.specs.Forest.{depthOf}
@@ -127,18 +128,18 @@ numberAt s g = listNumber s (placeOf s g)
 
 module _ (s : List ℕ) where
   -- The lists of the junctions below v are passed, none with a fault: those of v start at byte `at`
-  pub record AllPassed (v at total : ℕ) (starts : List ℕ) : Type 0 where
+  pub record AllPassed (v at total : ℕ) (tables : List ℕ) : Type 0 where
     pub few : v ≤ junctionsOf s
     pub place : at ≡ startOf s v
     pub inside : at ≤ length s
     pub counted : total ≡ entriesBefore s (listsBefore s v)
     pub small : total ≤ at
     pub left : listsNumber s ≡ faultsFrom (numberAt s) (listsOf s) (listsBefore s v)
-    pub places : length starts ≡ 1024
-    pub noted : (w : ℕ) → w < v → getD starts w 0 ≡ startOf s w
+    pub places : length tables ≡ tablePlaces
+    pub noted : (w : ℕ) → w < v → getD tables (startsFrom + w) 0 ≡ startOf s w
 
   -- before the first junction
-  pub all-none : {from : ℕ} {starts : List ℕ} → ParentsFit s → from ≡ listsFrom s → length starts ≡ 1024 → AllPassed 0 from 0 starts
+  pub all-none : {from : ℕ} {tables : List ℕ} → ParentsFit s → from ≡ listsFrom s → length tables ≡ tablePlaces → AllPassed 0 from 0 tables
   unfolding listsNumber listsBefore placeOf entriesBefore
   all-none parents is-from places =
       record {
@@ -152,7 +153,7 @@ module _ (s : List ℕ) where
         noted = λ w h. absurd (omega arith);
       }
 
-  module _ {v at total number behind sum depth : ℕ} {starts depths : List ℕ} (passed : AllPassed v at total starts)
+  module _ {v at total number behind sum depth : ℕ} {tables depths : List ℕ} (passed : AllPassed v at total tables)
       (on-map : v < junctionsOf s) (filled : DepthsFilled s depths) (deep : depth ≡ getD depths v 0)
       (scanned : ScannedSome s at depth total number behind sum) where
     is-depth : depth ≡ depthOf s v
@@ -185,18 +186,18 @@ module _ (s : List ℕ) where
             ap (λ g. firstFault (numberAt s) g depth) (add-zero (listsBefore s v)))
 
     -- a fault among v's lists refuses
-    pub all-fault : (number ≡ 0 → ⊥) → Scanned s (set starts v at) number behind sum
+    pub all-fault : (number ≡ 0 → ⊥) → Scanned s (set tables (startsFrom + v) at) number behind sum
     all-fault apart =
         record {
           is = sym (split ∙ decided-more _ apart);
-          places = length-set starts v at ∙ passed .places;
+          places = length-set tables (startsFrom + v) at ∙ passed .places;
           behind = λ z. absurd (apart z);
           sum = λ z. absurd (apart z);
           starts-filled = λ z. absurd (apart z);
         }
 
     -- v's lists are passed
-    pub all-more : junctionsOf s ≤ 1024 → number ≡ 0 → AllPassed (v + 1) behind sum (set starts v at)
+    pub all-more : junctionsOf s ≤ 1024 → number ≡ 0 → AllPassed (v + 1) behind sum (set tables (startsFrom + v) at)
     all-more few zero-is =
         record {
           few = omega arith;
@@ -205,7 +206,7 @@ module _ (s : List ℕ) where
           counted = counted;
           small = omega (arith, counted, place-is, place-counts s (listsBefore s (v + 1)));
           left = split ∙ rw zero-is;
-          places = length-set starts v at ∙ passed .places;
+          places = length-set tables (startsFrom + v) at ∙ passed .places;
           noted = λ w h. pick w h (ℕ-discrete w v);
         }
       where
@@ -226,14 +227,14 @@ module _ (s : List ℕ) where
               place-counts s (listsBefore s (v + 1)),
             )
 
-        pick : (w : ℕ) → w < v + 1 → Dec (w ≡ v) → getD (set starts v at) w 0 ≡ startOf s w
+        pick : (w : ℕ) → w < v + 1 → Dec (w ≡ v) → getD (set tables (startsFrom + v) at) (startsFrom + w) 0 ≡ startOf s w
         pick w h (yes e) =
-            ap (λ i. getD (set starts v at) i 0) e ∙ getD-set-same starts v at 0 (omega (arith, passed .places)) ∙ passed .place ∙
+            ap (λ i. getD (set tables (startsFrom + v) at) (startsFrom + i) 0) e ∙ getD-set-same tables (startsFrom + v) at 0 (omega (arith, passed .places)) ∙ passed .place ∙
             ap (startOf s) (sym e)
-        pick w h (no apart) = getD-set-other starts v w at 0 apart ∙ passed .noted w (omega arith)
+        pick w h (no apart) = getD-set-other tables (startsFrom + v) (startsFrom + w) at 0 (λ same. apart (omega arith)) ∙ passed .noted w (omega arith)
 
   -- all are passed
-  pub all-end : {v at total : ℕ} {starts : List ℕ} → AllPassed v at total starts → junctionsOf s ≤ v → Scanned s starts 0 at total
+  pub all-end : {v at total : ℕ} {tables : List ℕ} → AllPassed v at total tables → junctionsOf s ≤ v → Scanned s tables 0 at total
   all-end {v} passed h =
       record {
         is = sym (passed .left ∙ fault-end (numberAt s) (omega (arith, ap (listsBefore s) all)));

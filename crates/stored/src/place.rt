@@ -1,6 +1,8 @@
 // A reading place in the label file: it moves from list to list, and each move yields the next place.
 use crate::stored::count_at;
 use crate::stored::entries_end;
+use tables::STARTS;
+use tables::entry_at;
 ghost use mathlib.Core.Path.{_≡_};
 ghost use Prim.Native.Nat.{_+_, _≤_, _<_};
 ghost use lib.ListN.{length, getD};
@@ -75,18 +77,18 @@ pub fn number_of(table: &[u32; 1024], v: usize) -> usize
 pub fn find_list(
     labels: &[u8],
     depths: &[u32; 1024],
-    starts: &[u32; 1024],
+    tables: &[u32; 13312],
     v: usize,
     u: usize,
 ) -> Place
     requires { ⌜ Formed (now labels) ⌝ }
     requires { ⌜ DepthsFilled (now labels) (now depths) ⌝ }
-    requires { ⌜ StartsFilled (now labels) (now starts) ⌝ }
+    requires { ⌜ StartsFilled (now labels) (now tables) ⌝ }
     requires { ⌜ (v < junctionsOf (now labels)) × (u < junctionsOf (now labels)) ⌝ }
     requires { ⌜ depthOf (now labels) u < depthOf (now labels) v ⌝ }
     ensures { λ r. ⌜ FoundList (now (labels .entry)) v u (r .at) ⌝ }
 {
     let between = number_of(depths, v) - number_of(depths, u) - 1;
-    let start = number_of(starts, v);
+    let start = entry_at(tables, STARTS + v);
     skip(labels, Place { at: start }, between)
 }

@@ -8,9 +8,11 @@ use forest::parents::lists_from;
 use network::header::junctions_of;
 use paths::energy::Energy;
 use paths::seconds::Seconds;
+use tables::STARTS;
 ghost use mathlib.Core.Path.{_≡_};
 ghost use Prim.Native.Nat.{_≤_, _<_};
 ghost use lib.ListN.{length};
+ghost use Rattle.tables.specs.working.Layout.{tablePlaces};
 ghost use Rattle.refusals.specs.Order.{firstFault};
 ghost use Rattle.bytes.specs.working.Reads.{Read16};
 ghost use Rattle.forest.specs.LabelFile.{countAt, timeAt, energyAt, countEnd, entriesEnd, timeEnd, energyEnd, listEnd};
@@ -219,19 +221,19 @@ fn scan_junction(labels: &[u8], at: usize, depth: u32, total: usize) -> Scan
 }
 
 // Passes over all lists once, and notes where each junction's start.
-pub fn scan_lists(labels: &[u8], depths: &[u32; 1024], starts: &mut [u32; 1024]) -> Scan
+pub fn scan_lists(labels: &[u8], depths: &[u32; 1024], tables: &mut [u32; 13312]) -> Scan
     requires { ⌜ ParentsFit (now labels) ⌝ }
     requires { ⌜ DepthsFilled (now labels) (now depths) ⌝ }
     requires { ⌜ length (now labels) ≤ mostBytes ⌝ }
-    requires { ⌜ length (now starts) ≡ 1024 ⌝ }
-    ensures { λ r. ⌜ Scanned (now (labels .entry)) (now (starts .exit)) (r .number) (r .at) (r .total) ⌝ }
+    requires { ⌜ length (now tables) ≡ tablePlaces ⌝ }
+    ensures { λ r. ⌜ Scanned (now (labels .entry)) (now (tables .exit)) (r .number) (r .at) (r .total) ⌝ }
 {
     let n = junctions_of(labels) as usize;
     let mut at = lists_from(labels);
     let mut total: usize = 0;
     let mut v: usize = 0;
     while v < n {
-        starts[v] = at as u32;
+        tables[STARTS + v] = at as u32;
         let depth = depths[v];
         let scan = scan_junction(labels, at, depth, total);
         if scan.number != 0 {

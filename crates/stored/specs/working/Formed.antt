@@ -2,8 +2,9 @@
 use mathlib.Core.Path.{_≡_}
 use mathlib.Core.Bool.{true}
 use mathlib.Core.List.{List}
-use Prim.Native.Nat.{ℕ, suc, _≤_, _<_}
+use Prim.Native.Nat.{ℕ, suc, _+_, _≤_, _<_}
 use lib.ListN.{length, getD}
+use Rattle.tables.specs.working.Layout.{startsFrom, tablePlaces}
 use Rattle.network.specs.Versions.{leastEnergy}
 use Rattle.network.specs.NetworkFile.{versionOf, junctionsOf, roadsOf}
 use Rattle.network.specs.working.Fits.{NetworkFits}
@@ -12,6 +13,7 @@ use Rattle.refusals.specs.Order.{every}
 use Rattle.forest.specs.Forest.{roadJoins}
 use Rattle.forest.specs.working.Fits.{ParentsFit, DepthsFilled}
 use Rattle.network.specs.working.Roads.{Grouped}
+use Rattle.preorder.specs.working.Numbered.{Numbered}
 use Rattle.stored.specs.Stored.{listsBefore, listsOf, placeOf, entriesBefore}
 use Rattle.stored.specs.ListForm.{mostBytes, mostCount, mostFigure}
 
@@ -37,10 +39,10 @@ pub record Formed (labels : List ℕ) : Type 0 where
   pub tile : placeOf labels (listsOf labels) ≡ length labels
   pub all-entries : entriesBefore labels (listsOf labels) ≡ entriesOf labels
 
--- The byte where each junction's lists start
-pub record StartsFilled (labels starts : List ℕ) : Type 0 where
-  pub places : length starts ≡ 1024
-  pub start : (v : ℕ) → v < junctionsOf labels → getD starts v 0 ≡ startOf labels v
+-- The byte where each junction's lists start, in the lent table
+pub record StartsFilled (labels tables : List ℕ) : Type 0 where
+  pub places : length tables ≡ tablePlaces
+  pub start : (v : ℕ) → v < junctionsOf labels → getD tables (startsFrom + v) 0 ≡ startOf labels v
 
 -- Labels that passed 11 to 17 beside a network that passed 1 to 6
 pub record FilesFit (net s : List ℕ) : Type 0 where
@@ -49,8 +51,9 @@ pub record FilesFit (net s : List ℕ) : Type 0 where
   pub one-map : junctionsOf net ≡ junctionsOf s
   pub joins : every (roadJoins net s) (roadsOf net) ≡ true
 
--- What is worked out once per call: depths, starts, and the roads at each junction
-pub record Tables (net labels depths starts heads nexts : List ℕ) : Type 0 where
+-- What is worked out once per call: depths and, in the lent table, starts, the roads at each junction, and the numbering
+pub record Tables (net labels depths tables : List ℕ) : Type 0 where
   pub depths-filled : DepthsFilled labels depths
-  pub starts-filled : StartsFilled labels starts
-  pub grouped : Grouped net heads nexts
+  pub starts-filled : StartsFilled labels tables
+  pub grouped : Grouped net tables
+  pub numbered : Numbered labels tables

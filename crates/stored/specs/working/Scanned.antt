@@ -5,6 +5,7 @@ use mathlib.Core.List.{List}
 use Prim.Native.Nat.{ℕ, zero, suc, _+_, _*_, _≤_, _<_}
 use lib.Dec.{leb, ltb}
 use lib.ListN.{length}
+use Rattle.tables.specs.working.Layout.{tablePlaces}
 use Rattle.refusals.specs.Order.{firstFault}
 use Rattle.refusals.specs.Lent.{filled}
 use Rattle.network.specs.Versions.{leastEnergy}
@@ -66,12 +67,12 @@ pub record PassedSome (labels : List ℕ) (at lists total : ℕ) (k behind sum :
   pub counted : at + 2 * k + 8 * sum ≡ behind + 8 * total
 
 -- After all lists: their number and, if that is 0, the byte behind the last, all entries, and where each junction's lists start
-pub record Scanned (labels starts : List ℕ) (number at total : ℕ) : Type 0 where
+pub record Scanned (labels tables : List ℕ) (number at total : ℕ) : Type 0 where
   pub is : number ≡ listsNumber labels
-  pub places : length starts ≡ 1024
+  pub places : length tables ≡ tablePlaces
   pub behind : number ≡ 0 → at ≡ placeOf labels (listsOf labels)
   pub sum : number ≡ 0 → total ≡ entriesBefore labels (listsOf labels)
-  pub starts-filled : number ≡ 0 → StartsFilled labels starts
+  pub starts-filled : number ≡ 0 → StartsFilled labels tables
 
 -- The list at byte `at` stands in the first places of two lent slices
 pub record Loaded (labels : List ℕ) (at : ℕ) (times energies timesAfter energiesAfter : List ℕ) (count : ℕ) : Type 0 where

@@ -1,8 +1,8 @@
 -- The lists of v follow each other from the parent upward, so u's stands as many behind the first as there are ancestors between.
 use Prim.Native.Nat.{_<_}
 use native.Mathlib.Omega.{arith}
-use borrow.Author.Needs.{needs}
 use Rattle.stored.proofs.Places.{deeper-in-table, way-read, way-inside, way-found}
+use borrow.Author.Needs.{needs}
 use Rattle.stored.proofs.place.find_list.Statement.{statement}
 use Rattle.stored.proofs.place.find_list.Tie as tie
 
@@ -24,15 +24,18 @@ sub-between c = omega (arith, deeper c)
 sub-between-2 : tie.Need-sub-between-2
 sub-between-2 c = omega (arith, deeper c)
 
-number-of-requires-3 : tie.Need-number-of-requires-3
-number-of-requires-3 c κs = search needs
+add-entry-at : tie.Need-add-entry-at
+add-entry-at c = search needs
+
+entry-at-requires : tie.Need-entry-at-requires
+entry-at-requires c κs = search needs
 
 skip-requires : tie.Need-skip-requires
 skip-requires c κs =
     let pre = c .before .before .before .before .pre in (
       way-inside (pre .0)
           (way-read (pre .1 .0) (pre .1 .1 .0) (pre .1 .1 .1 .0 .0) (pre .1 .1 .1 .0 .1) (pre .1 .1 .1 .1)
-          (c .before .before .number-of .ensures) (c .before .number-of2 .ensures) (c .number-of3 .ensures)),
+          (c .before .before .number-of .ensures) (c .before .number-of2 .ensures) (c .entry-at .ensures)),
       pre .0 .few-bytes,
     )
 
@@ -47,6 +50,7 @@ find-list-spec =
     number-of-requires-2
     sub-between
     sub-between-2
-    number-of-requires-3
+    add-entry-at
+    entry-at-requires
     skip-requires
     returns)

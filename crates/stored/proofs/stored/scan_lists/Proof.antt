@@ -2,16 +2,16 @@
 use mathlib.Core.Path.{refl}
 use Prim.Native.Nat.{_-_}
 use native.Mathlib.Omega.{arith}
-use borrow.Author.Needs.{needs}
 use Rattle.stored.proofs.Scan.{AllPassed, all-none, all-fault, all-more, all-end}
+use borrow.Author.Needs.{needs}
 use Rattle.stored.proofs.stored.scan_lists.Statement.{statement}
 use Rattle.stored.proofs.stored.scan_lists.Tie as tie
 
 abbrev Inv-loop : tie.InvT-loop
-Inv-loop labels depths starts₀ n at₀ total₀ v₀ starts at total v = AllPassed labels v at total starts
+Inv-loop labels depths tables₀ n at₀ total₀ v₀ tables at total v = AllPassed labels v at total tables
 
 abbrev μ-loop : tie.MeasureT-loop
-μ-loop labels depths starts₀ n at₀ total₀ v₀ starts at total v = n - v
+μ-loop labels depths tables₀ n at₀ total₀ v₀ tables at total v = n - v
 
 junctions-of-requires : tie.Need-junctions-of-requires Inv-loop μ-loop
 junctions-of-requires c κs = search needs
@@ -27,14 +27,17 @@ loop-holds c =
     let pre = c .before .before .before .pre in
     all-none _ (pre .0) (c .lists-from .ensures) (pre .1 .1 .1)
 
-cast-starts : tie.Need-cast-starts Inv-loop μ-loop
-cast-starts c = search needs
+cast-tables : tie.Need-cast-tables Inv-loop μ-loop
+cast-tables c = search needs
 
-mul-starts : tie.Need-mul-starts Inv-loop μ-loop
-mul-starts c = search needs
+add-tables : tie.Need-add-tables Inv-loop μ-loop
+add-tables c = search needs
 
-element-write-starts : tie.Need-element-write-starts Inv-loop μ-loop
-element-write-starts c = search needs
+mul-tables : tie.Need-mul-tables Inv-loop μ-loop
+mul-tables c = search needs
+
+element-write-tables : tie.Need-element-write-tables Inv-loop μ-loop
+element-write-tables c = search needs
 
 mul-depth : tie.Need-mul-depth Inv-loop μ-loop
 mul-depth c = search needs
@@ -77,9 +80,10 @@ scan-lists-spec =
     cast-n
     lists-from-requires
     loop-holds
-    cast-starts
-    mul-starts
-    element-write-starts
+    cast-tables
+    add-tables
+    mul-tables
+    element-write-tables
     mul-depth
     element-copy-out-depth
     scan-junction-requires
