@@ -8,6 +8,7 @@ use native.Mathlib.Omega.{arith}
 use lib.Dec.{leb, eqb}
 use lib.ListN.{length}
 use borrow.Author.Tests.{le-leb, lt-leb, eq-eqb, ne-eqb, not-true, not-false}
+use Rattle.tables.specs.working.Layout.{tablePlaces}
 use Rattle.refusals.specs.Order.{unless, decided, every}
 use Rattle.refusals.proofs.Order.{decided-more}
 use Rattle.bytes.specs.Bytes.{marked}
@@ -183,7 +184,7 @@ module _ (s : List ℕ) {starts : List ℕ} {number at total : ℕ} (scanned : S
 
 -- a number that refuses is the file's, whatever the tables hold
 refused :
-    {s depths starts : List ℕ} {form r : ℕ} → r ≡ form → (r ≡ 0 → ⊥) → length depths ≡ 1024 → length starts ≡ 1024 →
+    {s depths starts : List ℕ} {form r : ℕ} → r ≡ form → (r ≡ 0 → ⊥) → length depths ≡ 1024 → length starts ≡ tablePlaces →
     FormRead s depths starts form r
 refused is fails depth-places start-places =
     record {
@@ -191,13 +192,13 @@ refused is fails depth-places start-places =
       depths-filled = λ z. absurd (fails z);
       starts-filled = λ z. absurd (fails z);
       depth-places = depth-places;
-      start-places = start-places;
+      table-places = start-places;
     }
 
 module _ (s : List ℕ) (fits joins : Bool) {header : ℕ} (header-is : header ≡ headerForm s) where
   -- the header refuses
   pub read-header :
-      {depths starts : List ℕ} → (header ≡ 0 → ⊥) → length depths ≡ 1024 → length starts ≡ 1024 →
+      {depths starts : List ℕ} → (header ≡ 0 → ⊥) → length depths ≡ 1024 → length starts ≡ tablePlaces →
       FormRead s depths starts (labelForm fits joins s) header
   unfolding labelForm
   read-header fails = refused (rw (← header-is) (sym (decided-more _ fails))) fails
@@ -210,13 +211,13 @@ module _ (s : List ℕ) (fits joins : Bool) {header : ℕ} (header-is : header �
 
     -- 14
     pub read-misfit :
-        {depths starts : List ℕ} → not fit ≡ true → length depths ≡ 1024 → length starts ≡ 1024 →
+        {depths starts : List ℕ} → not fit ≡ true → length depths ≡ 1024 → length starts ≡ tablePlaces →
         FormRead s depths starts (labelForm fits joins s) 14
     read-misfit fails = refused (rw (after-header, not-true fit fails)) (λ z. omega arith)
 
     module _ (holds : not fit ≡ false) {depths : List ℕ} {parents : ℕ} (numbered : ParentsNumbered s depths parents) where
       -- the parents refuse
-      pub read-parents : {starts : List ℕ} → (parents ≡ 0 → ⊥) → length starts ≡ 1024 → FormRead s depths starts (labelForm fits joins s) parents
+      pub read-parents : {starts : List ℕ} → (parents ≡ 0 → ⊥) → length starts ≡ tablePlaces → FormRead s depths starts (labelForm fits joins s) parents
       read-parents fails =
           refused
           (rw (after-header, not-false fit holds, ← numbered .number) (sym (decided-more _ fails)))
@@ -229,7 +230,7 @@ module _ (s : List ℕ) (fits joins : Bool) {header : ℕ} (header-is : header �
         after-parents = rw (after-header, not-false fit holds, ← numbered .number, parents-pass, ← join-is)
 
         -- 16
-        pub read-unjoined : {starts : List ℕ} → not join ≡ true → length starts ≡ 1024 → FormRead s depths starts (labelForm fits joins s) 16
+        pub read-unjoined : {starts : List ℕ} → not join ≡ true → length starts ≡ tablePlaces → FormRead s depths starts (labelForm fits joins s) 16
         read-unjoined fails = refused (rw (after-parents, not-true join fails)) (λ z. omega arith) (numbered .places)
 
         -- the lists decide
@@ -241,7 +242,7 @@ module _ (s : List ℕ) (fits joins : Bool) {header : ℕ} (header-is : header �
               depths-filled = λ z. numbered .filled parents-pass;
               starts-filled = lists .filled;
               depth-places = numbered .places;
-              start-places = lists .places;
+              table-places = lists .places;
             }
 
 -- ---- Labels alone

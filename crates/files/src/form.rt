@@ -11,6 +11,7 @@ use stored::stored::scan_lists;
 ghost use mathlib.Core.Path.{_≡_};
 ghost use Prim.Native.Nat.{_≤_};
 ghost use lib.ListN.{length};
+ghost use Rattle.tables.specs.working.Layout.{tablePlaces};
 ghost use Rattle.network.specs.Versions.{labelsServed};
 ghost use Rattle.network.specs.NetworkFile.{junctionsOf};
 ghost use Rattle.network.specs.working.Fits.{NetworkFits};
@@ -92,14 +93,14 @@ fn parents_form(labels: &[u8], depths: &mut [u32; 1024]) -> u32
 }
 
 // The number of the lists, then 11 for bytes left, 17 for a wrong count of all entries, or 0; at 0 the starts are filled.
-fn lists_form(labels: &[u8], depths: &[u32; 1024], starts: &mut [u32; 1024]) -> u32
+fn lists_form(labels: &[u8], depths: &[u32; 1024], tables: &mut [u32; 13312]) -> u32
     requires { ⌜ ParentsFit (now labels) ⌝ }
     requires { ⌜ DepthsFilled (now labels) (now depths) ⌝ }
     requires { ⌜ length (now labels) ≤ mostBytes ⌝ }
-    requires { ⌜ length (now starts) ≡ 1024 ⌝ }
-    ensures { λ r. ⌜ ListsNumbered (now (labels .entry)) (now (starts .exit)) r ⌝ }
+    requires { ⌜ length (now tables) ≡ tablePlaces ⌝ }
+    ensures { λ r. ⌜ ListsNumbered (now (labels .entry)) (now (tables .exit)) r ⌝ }
 {
-    let scan = scan_lists(labels, depths, starts);
+    let scan = scan_lists(labels, depths, tables);
     let number = scan.number;
     if number != 0 {
         return number;
@@ -117,10 +118,10 @@ fn lists_form(labels: &[u8], depths: &[u32; 1024], starts: &mut [u32; 1024]) -> 
 }
 
 // 11 to 15 or 17 for labels alone, or 0; at 0 both tables are filled.
-pub fn labels_number_alone(labels: &[u8], depths: &mut [u32; 1024], starts: &mut [u32; 1024]) -> u32
+pub fn labels_number_alone(labels: &[u8], depths: &mut [u32; 1024], tables: &mut [u32; 13312]) -> u32
     requires { ⌜ length (now depths) ≡ 1024 ⌝ }
-    requires { ⌜ length (now starts) ≡ 1024 ⌝ }
-    ensures { λ r. ⌜ LabelsNumberedAlone (now (labels .entry)) (now (depths .exit)) (now (starts .exit)) r ⌝ }
+    requires { ⌜ length (now tables) ≡ tablePlaces ⌝ }
+    ensures { λ r. ⌜ LabelsNumberedAlone (now (labels .entry)) (now (depths .exit)) (now (tables .exit)) r ⌝ }
 {
     let header = header_form(labels);
     if header != 0 {
@@ -133,7 +134,7 @@ pub fn labels_number_alone(labels: &[u8], depths: &mut [u32; 1024], starts: &mut
     if parents != 0 {
         return parents;
     }
-    lists_form(labels, depths, starts)
+    lists_form(labels, depths, tables)
 }
 
 // 11 to 17 for labels beside a network that passed, or 0; at 0 both tables are filled.
@@ -141,12 +142,12 @@ pub fn labels_number(
     net: &[u8],
     labels: &[u8],
     depths: &mut [u32; 1024],
-    starts: &mut [u32; 1024],
+    tables: &mut [u32; 13312],
 ) -> u32
     requires { ⌜ NetworkFits (now net) ⌝ }
     requires { ⌜ length (now depths) ≡ 1024 ⌝ }
-    requires { ⌜ length (now starts) ≡ 1024 ⌝ }
-    ensures { λ r. ⌜ LabelsNumbered (now (net .entry)) (now (labels .entry)) (now (depths .exit)) (now (starts .exit)) r ⌝ }
+    requires { ⌜ length (now tables) ≡ tablePlaces ⌝ }
+    ensures { λ r. ⌜ LabelsNumbered (now (net .entry)) (now (labels .entry)) (now (depths .exit)) (now (tables .exit)) r ⌝ }
 {
     let header = header_form(labels);
     if header != 0 {
@@ -162,5 +163,5 @@ pub fn labels_number(
     if !roads_join(net, labels, depths) {
         return 16;
     }
-    lists_form(labels, depths, starts)
+    lists_form(labels, depths, tables)
 }

@@ -35,11 +35,11 @@ fn is_above(labels: &[u8], depths: &[u32; 1024], u: usize, v: usize) -> bool
 }
 
 // Where the list to show stands in labels that passed.
-fn list_span(labels: &[u8], depths: &[u32; 1024], starts: &[u32; 1024], v: usize, u: usize) -> Span
+fn list_span(labels: &[u8], depths: &[u32; 1024], tables: &[u32; 13312], v: usize, u: usize) -> Span
     requires { ⌜ labelsNumberAlone (now labels) ≡ 0 ⌝ }
     requires { ⌜ Formed (now labels) ⌝ }
     requires { ⌜ DepthsFilled (now labels) (now depths) ⌝ }
-    requires { ⌜ StartsFilled (now labels) (now starts) ⌝ }
+    requires { ⌜ StartsFilled (now labels) (now tables) ⌝ }
     ensures { λ r. ⌜ SpanFound (now (labels .entry)) v u (r .start) (r .end) ⌝ }
 {
     let n = junctions_of(labels) as usize;
@@ -52,7 +52,7 @@ fn list_span(labels: &[u8], depths: &[u32; 1024], starts: &[u32; 1024], v: usize
     if !is_above(labels, depths, u, v) {
         return Span { start: 0, end: 0 };
     }
-    let place = find_list(labels, depths, starts, v, u);
+    let place = find_list(labels, depths, tables, v, u);
     let behind = place.next(labels);
     let start = place.at;
     let end = behind.at;
@@ -67,12 +67,12 @@ pub fn span_of(labels: &[u8], v: u32, u: u32) -> Span
     ensures { λ r. ⌜ SpanFound (now (labels .entry)) v u (r .start) (r .end) ⌝ }
 {
     let mut depths: [u32; 1024] = [0; 1024];
-    let mut starts: [u32; 1024] = [0; 1024];
-    let number = labels_number_alone(labels, &mut depths, &mut starts);
+    let mut tables: [u32; 13312] = [0; 13312];
+    let number = labels_number_alone(labels, &mut depths, &mut tables);
     if number != 0 {
         return Span { start: 0, end: 0 };
     }
-    list_span(labels, &depths, &starts, v as usize, u as usize)
+    list_span(labels, &depths, &tables, v as usize, u as usize)
 }
 
 // The list of v and its proper ancestor u, from its count through its last entry; the empty part where there is none to show.

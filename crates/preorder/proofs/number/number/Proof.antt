@@ -48,18 +48,18 @@ place-all-requires c κs =
 list-order-requires : tie.Need-list-order-requires
 list-order-requires c κs =
     let placed = c .before .before .place-all .ensures in
-    (placed-spread (c .before .before .before .before .before .before .before .before .before .before .before .before .before .before .before .before .before .before .pre .0) (c .before .before .before .before .before .before .before .merge-all .ensures) placed (c .before .before .before .before .before .before .before .before .before .before .before .before .before .before .before .before .u16-at .ensures .is), placed .places, length-replicate {A = ℕ} 1024 0)
+    (placed-spread (c .before .before .before .before .before .before .before .before .before .before .before .before .before .before .before .before .before .before .pre .0) (c .before .before .before .before .before .before .before .merge-all .ensures) placed (c .before .before .before .before .before .before .before .before .before .before .before .before .before .before .before .before .junctions-of .ensures .is), placed .places, length-replicate {A = ℕ} 1024 0)
 
 copy-numbering-requires : tie.Need-copy-numbering-requires
 copy-numbering-requires c κs =
     let start = c .before .before .before .before .before .before .before .before .before .before .before .before .before .before .before .before .before .before .before .before .before .before .before in (
-      (omega (arith, c .before .before .before .before .before .before .before .before .before .before .before .before .before .before .before .before .before .before .before .before .before .u16-at .ensures .is, start .pre .0 .few-junctions), start .pre .1 .1),
+      (omega (arith, c .before .before .before .before .before .before .before .before .before .before .before .before .before .before .before .before .before .before .before .before .before .junctions-of .ensures .is, start .pre .0 .few-junctions), start .pre .1 .1),
       (c .before .before .before .before .list-order .ensures .places, c .before .before .before .before .before .before .before .place-all .ensures .places, c .before .before .before .before .before .before .before .before .before .before .before .before .merge-all .ensures .size-places),
     )
 
 returns : tie.Need-returns
 returns c = (
-  listed-numbered (c .before .before .before .before .before .before .before .before .before .before .before .before .before .before .before .before .before .before .before .before .before .before .before .before .pre .0) (c .before .before .before .before .before .before .before .before .before .before .before .before .before .merge-all .ensures) (c .before .before .before .before .before .before .before .before .place-all .ensures) (c .before .before .before .before .before .before .before .before .before .before .before .before .before .before .before .before .before .before .before .before .before .before .u16-at .ensures .is) (c .before .before .before .before .before .list-order .ensures) (c .copy-numbering .ensures),
+  listed-numbered (c .before .before .before .before .before .before .before .before .before .before .before .before .before .before .before .before .before .before .before .before .before .before .before .before .pre .0) (c .before .before .before .before .before .before .before .before .before .before .before .before .before .merge-all .ensures) (c .before .before .before .before .before .before .before .before .place-all .ensures) (c .before .before .before .before .before .before .before .before .before .before .before .before .before .before .before .before .before .before .before .before .before .before .junctions-of .ensures .is) (c .before .before .before .before .before .list-order .ensures) (c .copy-numbering .ensures),
   c .copy-numbering .ensures .lower-stay,
 )
 
