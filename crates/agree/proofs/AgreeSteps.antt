@@ -13,12 +13,11 @@ use Rattle.paths.specs.Weights.{weights, energy, pair, Covered}
 use Rattle.paths.proofs.LabelTest.{ListAgrees}
 use Rattle.lists.specs.Entries.{Weight}
 use Rattle.refusals.specs.working.Decides.{Decides}
+use Rattle.tables.specs.working.Layout.{firstsFrom}
 use Rattle.network.specs.NetworkFile.{networkOf, roadsOf, roadTime, roadEnergy, RoadArc}
-use Rattle.network.specs.working.Roads.{touches, otherEnd, nextRoad}
+use Rattle.network.specs.working.Roads.{touches, otherEnd, nextRoad, Grouped}
 use Rattle.network.proofs.RoadsAt.{nextRoad-low, nextRoad-touches, nextRoad-passed, arc-touches}
-use Rattle.network.specs.working.RoadsRead.{NextsFilled}
 use Rattle.network.specs.working.Fits.{NetworkFits}
-use Rattle.network.proofs.GroupedRoads.{nexts-filled}
 use Rattle.forest.specs.LabelFile.{parentsOf, countAt}
 use Rattle.stored.specs.Stored.{listPlace, listAt, stored}
 use Rattle.stored.specs.working.Formed.{ListFits, FilesFit}
@@ -310,7 +309,7 @@ next-later net v k next e = omega (arith, nextRoad-low net v (suc k))
 
 -- ---- What the code asks at its start and at each road
 
-module _ {net s heads nexts places : List ℕ} {v u : ℕ} (input : AgreeInput net s heads nexts places v u) where
+module _ {net s tables places : List ℕ} {v u : ℕ} (input : AgreeInput net s tables places v u) where
   -- the junction has a place in the tables
   pub own-index : v < 1024
   own-index = omega (arith, input .on-map, input .beside .labels .parents .few-junctions)
@@ -328,8 +327,8 @@ module _ {net s heads nexts places : List ℕ} {v u : ℕ} (input : AgreeInput n
   own-fits at-is = rw (own-place at-is) (stored-fits (input .beside .labels) (input .above))
 
   -- the first road
-  pub first-road : {k : ℕ} → k ≡ getD heads v 0 → k ≡ nextRoad net v 0
-  first-road head-is = head-is ∙ input .grouped .head v (omega (arith, input .on-map, input .beside .one-map))
+  pub first-is : {k : ℕ} → k ≡ getD tables (firstsFrom + v) 0 → k ≡ nextRoad net v 0
+  first-is read = read ∙ input .grouped .first v (omega (arith, input .on-map, input .beside .one-map))
 
   module _ {k own : ℕ} {marks now : List ℕ} (so : Agreed net s v u own k marks now) (stands : k < roadsOf net) where
     -- what is asked at each road
@@ -337,5 +336,5 @@ module _ {net s heads nexts places : List ℕ} {v u : ℕ} (input : AgreeInput n
     road-input = record { beside = input .beside; places-for = input .places-for; above = input .above; stands = stands; here = so .here stands }
 
     -- the table says which road follows
-    pub next-input : NetworkFits net × NextsFilled net nexts × (k < roadsOf net) × (touches net v k ≡ true)
-    next-input = (input .beside .network, nexts-filled (input .grouped), stands, so .here stands)
+    pub next-input : NetworkFits net × Grouped net tables × (k < roadsOf net) × (touches net v k ≡ true)
+    next-input = (input .beside .network, input .grouped, stands, so .here stands)

@@ -3,6 +3,7 @@ use crate::cover::cover_road;
 use crate::cover::cover_stored;
 use bytes::u16_at;
 use bytes::u32_at;
+use network::roads::first_road;
 use network::roads::next_road;
 use network::roads::other_end;
 use network::roads::road_energy;
@@ -20,6 +21,12 @@ ghost use Rattle.stored.specs.Stored.{stored};
 ghost use Rattle.agree.specs.working.Covering.{ListRead};
 ghost use Rattle.agree.specs.working.Agreeing.{AgreeInput, Unmarked, RoadInput, RoadTested, MarksRead};
 
+// Where the list that is tested stands, and how many entries it has.
+pub struct OwnList {
+    pub at: usize,
+    pub count: usize,
+}
+
 // Whether every sum that starts with road k is covered by the own list, of v and u; the entries that a sum equals are marked.
 fn road_agrees(
     net: &[u8],
@@ -28,26 +35,25 @@ fn road_agrees(
     v: usize,
     u: usize,
     k: usize,
-    own: usize,
-    own_count: usize,
+    own: OwnList,
     marks: &mut [u8; 4096],
 ) -> bool
     requires { ⌜ RoadInput (now net) (now labels) (now places) v u k ⌝ }
-    requires { ⌜ ListRead (now labels) own «own_count» ⌝ }
+    requires { ⌜ ListRead (now labels) (own .at) (own .count) ⌝ }
     requires { ⌜ length (now marks) ≡ 4096 ⌝ }
-    ensures { λ r. ⌜ RoadTested (now (net .entry)) (now (labels .entry)) v u own k (now (marks .entry)) (now (marks .exit)) r ⌝ }
+    ensures { λ r. ⌜ RoadTested (now (net .entry)) (now (labels .entry)) v u (own .at) k (now (marks .entry)) (now (marks .exit)) r ⌝ }
 {
     let w = other_end(net, v, k);
     let time = road_time(net, k);
     let units = road_energy(net, k);
     if w == u {
-        return cover_road(labels, own, own_count, time, units, marks);
+        return cover_road(labels, own.at, own.count, time, units, marks);
     }
     cover_stored(
         labels,
         number_of(places, w),
-        own,
-        own_count,
+        own.at,
+        own.count,
         time,
         units,
         marks,
@@ -75,28 +81,31 @@ fn all_marked(marks: &mut [u8; 4096], count: usize) -> bool
 pub fn list_agrees(
     net: &[u8],
     labels: &[u8],
-    heads: &[u32; 1024],
-    nexts: &[u32; 8192],
+    tables: &[u32; 13312],
     places: &[u32; 1024],
     v: usize,
     u: usize,
     marks: &mut [u8; 4096],
 ) -> bool
-    requires { ⌜ AgreeInput (now net) (now labels) (now heads) (now nexts) (now places) v u ⌝ }
+    requires { ⌜ AgreeInput (now net) (now labels) (now tables) (now places) v u ⌝ }
     requires { ⌜ Unmarked (now marks) ⌝ }
     ensures { λ r.
         ⌜ Decides (ListAgrees (networkOf (now (net .entry))) (parentsOf (now (labels .entry))) (stored (now (labels .entry))) v u) r ⌝ }
     ensures { λ r. ⌜ (r ≡ true → Unmarked (now (marks .exit))) ⌝ }
 {
-    let own = number_of(places, v);
-    let own_count = u16_at(labels, own) as usize;
+    let at = number_of(places, v);
+    let count = u16_at(labels, at) as usize;
     let roads = u32_at(net, 8) as usize;
-    let mut k = number_of(heads, v);
+    let own = OwnList {
+        at: at,
+        count: count,
+    };
+    let mut k = first_road(tables, v);
     while k < roads {
-        if !road_agrees(net, labels, places, v, u, k, own, own_count, marks) {
+        if !road_agrees(net, labels, places, v, u, k, own, marks) {
             return false; // the list leaves a sum uncovered
         }
-        k = next_road(net, nexts, v, k);
+        k = next_road(net, tables, v, k);
     }
-    all_marked(marks, own_count)
+    all_marked(marks, count)
 }

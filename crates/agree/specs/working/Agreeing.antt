@@ -26,9 +26,9 @@ pub record PlacesFor (s : List ℕ) (u : ℕ) (places : List ℕ) : Type 0 where
   pub above : (w : ℕ) → w < junctionsOf s → Above (parentsOf s) w u → getD places w 0 ≡ listPlace s u w
 
 -- What is known where the stored list of v and its proper ancestor u is tested
-pub record AgreeInput (net s heads nexts places : List ℕ) (v u : ℕ) : Type 0 where
+pub record AgreeInput (net s tables places : List ℕ) (v u : ℕ) : Type 0 where
   pub beside : FilesFit net s
-  pub grouped : Grouped net heads nexts
+  pub grouped : Grouped net tables
   pub places-for : PlacesFor s u places
   pub on-map : v < junctionsOf s
   pub above : Above (parentsOf s) u v

@@ -17,7 +17,7 @@ use Rattle.agree.proofs.AgreeSteps.{
   header-inside,
   own-place,
   own-fits,
-  first-road,
+  first-is,
   road-input,
   next-input,
 }
@@ -26,10 +26,10 @@ use Rattle.agree.proofs.agree.list_agrees.Statement.{statement}
 use Rattle.agree.proofs.agree.list_agrees.Tie as tie
 
 abbrev Inv-loop : tie.InvT-loop
-Inv-loop net labels heads nexts places v u marks₀ own own-count roads k₀ marks k = Agreed net labels v u own k marks₀ marks
+Inv-loop net labels tables places v u marks₀ at count roads own k₀ marks k = Agreed net labels v u at k marks₀ marks
 
 abbrev μ-loop : tie.MeasureT-loop
-μ-loop net labels heads nexts places v u marks₀ own own-count roads k₀ marks k = roads - k
+μ-loop net labels tables places v u marks₀ at count roads own k₀ marks k = roads - k
 
 number-of-requires : tie.Need-number-of-requires Inv-loop μ-loop
 number-of-requires c κs = own-index (c .before .before .pre .0)
@@ -37,8 +37,8 @@ number-of-requires c κs = own-index (c .before .before .pre .0)
 u16-at-requires : tie.Need-u16-at-requires Inv-loop μ-loop
 u16-at-requires c κs = count-inside (own-fits (c .before .before .before .pre .0) (c .number-of .ensures))
 
-cast-own-count : tie.Need-cast-own-count Inv-loop μ-loop
-cast-own-count c = search needs
+cast-count : tie.Need-cast-count Inv-loop μ-loop
+cast-count c = search needs
 
 u32-at-requires : tie.Need-u32-at-requires Inv-loop μ-loop
 u32-at-requires c κs = header-inside (c .before .before .before .before .pre .0)
@@ -46,13 +46,15 @@ u32-at-requires c κs = header-inside (c .before .before .before .before .pre .0
 cast-roads : tie.Need-cast-roads Inv-loop μ-loop
 cast-roads c = search needs
 
-number-of-requires-2 : tie.Need-number-of-requires-2 Inv-loop μ-loop
-number-of-requires-2 c κs = own-index (c .before .before .before .before .before .pre .0)
+first-road-requires : tie.Need-first-road-requires Inv-loop μ-loop
+first-road-requires c κs =
+    let input = c .before .before .before .before .before .pre .0 in
+    (input .grouped .places, own-index input)
 
 loop-holds : tie.Need-loop-holds Inv-loop μ-loop
 loop-holds c =
     let pre = c .before .before .before .before .before .before .pre in
-    agreed-start (pre .0 .beside) (first-road (pre .0) (c .number-of2 .ensures)) (pre .1)
+    agreed-start (pre .0 .beside) (first-is (pre .0) (c .first-road .ensures)) (pre .1)
 
 road-agrees-requires : tie.Need-road-agrees-requires Inv-loop μ-loop
 road-agrees-requires c κs =
@@ -132,10 +134,10 @@ list-agrees-spec =
     μ-loop
     number-of-requires
     u16-at-requires
-    cast-own-count
+    cast-count
     u32-at-requires
     cast-roads
-    number-of-requires-2
+    first-road-requires
     loop-holds
     road-agrees-requires
     returns
