@@ -54,13 +54,18 @@ implied false true true f = f refl
 implied false true false f = refl
 implied false false c f = refl
 
--- the energy's rule is a range from the floor on
-energy-by-floor : (s : List ℕ) (at j : ℕ) → energyFits s at j ≡ energyFrom (energyFloor s at j) (energyAt s at j)
+-- the energy's rule is a range from the floor on, which is no less than the least
+energy-by-floor :
+    (s : List ℕ) (at j : ℕ) → leastEnergy (versionOf s) ≤ energyFloor s at j →
+    energyFits s at j ≡ energyFrom (energyFloor s at j) (energyAt s at j)
 unfolding energyFits
-energy-by-floor s at zero = turned (leb 1 (energyAt s at 0)) (leb (energyAt s at 0) mostFigure)
-energy-by-floor s at (suc j) =
-    implied (leb 1 (energyAt s at (suc j))) (leb (energyAt s at (suc j)) mostFigure) (ltb (energyAt s at j) (energyAt s at (suc j)))
-    (λ h. le-leb 1 (energyAt s at (suc j)) (omega (arith, ltb-true (energyAt s at j) (energyAt s at (suc j)) h)))
+energy-by-floor s at zero from = turned (leb (leastEnergy (versionOf s)) (energyAt s at 0)) (leb (energyAt s at 0) mostFigure)
+energy-by-floor s at (suc j) from =
+    implied
+    (leb (leastEnergy (versionOf s)) (energyAt s at (suc j)))
+    (leb (energyAt s at (suc j)) mostFigure)
+    (ltb (energyAt s at j) (energyAt s at (suc j)))
+    (λ h. le-leb (leastEnergy (versionOf s)) (energyAt s at (suc j)) (omega (arith, from, ltb-true (energyAt s at j) (energyAt s at (suc j)) h)))
 
 -- the test against the ceiling is the time's rule
 pub time-tested :
@@ -70,9 +75,14 @@ time-tested s at j is-ceiling is-time tested = tested ∙ rw (is-time, is-ceilin
 
 -- the test against the floor is the energy's rule
 pub energy-tested :
-    (s : List ℕ) (at j : ℕ) {x : Bool} {e floor : ℕ} → floor ≡ energyFloor s at j → e ≡ energyAt s at j →
+    (s : List ℕ) (at j : ℕ) {x : Bool} {e floor : ℕ} → leastEnergy (versionOf s) ≤ floor → floor ≡ energyFloor s at j → e ≡ energyAt s at j →
     x ≡ energyFrom floor e → x ≡ energyFits s at j
-energy-tested s at j is-floor is-energy tested = tested ∙ rw (is-energy, is-floor) (sym (energy-by-floor s at j))
+energy-tested s at j from is-floor is-energy tested =
+    tested ∙ rw (is-energy, is-floor) (sym (energy-by-floor s at j (omega (arith, from, is-floor))))
+
+-- an energy that passed is no less than the floor
+pub floor-below : (e floor : ℕ) {x : Bool} → x ≡ energyFrom floor e → not x ≡ false → floor ≤ e
+floor-below e floor {x} tested passed = leb-true floor e (and-both (leb e mostFigure) (leb floor e) (sym tested ∙ not-false x passed) .1)
 
 -- an energy that passed leaves room for the next floor
 pub floor-fits : (e floor : ℕ) {x : Bool} → x ≡ energyFrom floor e → not x ≡ false → e + 1 < 2 ^ 32
@@ -99,10 +109,18 @@ module _ (s : List ℕ) (at : ℕ) where
     pub left : firstFault (entryNumber s at) 0 whole ≡ faultsFrom (entryNumber s at) whole j
     pub is-ceiling : ceiling ≡ timeCeiling s at j
     pub is-floor : floor ≡ energyFloor s at j
+    pub from-least : leastEnergy (versionOf s) ≤ floor
 
   -- before the first entry
-  pub tested-none : (whole : ℕ) → Tested whole 0 (suc mostFigure) (leastEnergy (versionOf s))
-  tested-none whole = record { few = omega arith; left = ap (firstFault (entryNumber s at) 0) (omega arith); is-ceiling = refl; is-floor = refl }
+  pub tested-none : (whole : ℕ) {least : ℕ} → least ≡ leastEnergy (versionOf s) → Tested whole 0 (suc mostFigure) least
+  tested-none whole is-least =
+      record {
+        few = omega arith;
+        left = ap (firstFault (entryNumber s at) 0) (omega arith);
+        is-ceiling = refl;
+        is-floor = is-least;
+        from-least = omega (arith, is-least);
+      }
 
   -- a 17 at entry j is the list's number
   fault-seventeen :
@@ -124,7 +142,7 @@ module _ (s : List ℕ) (at : ℕ) where
       good-time = sym time-rule ∙ not-false x time-passed
 
       energy-rule : y ≡ energyFits s at j
-      energy-rule = energy-tested s at j (tested .is-floor) is-energy energy-test
+      energy-rule = energy-tested s at j (tested .from-least) (tested .is-floor) is-energy energy-test
 
       -- and so does an energy
       pub tested-bad-energy : not y ≡ true → 17 ≡ firstFault (entryNumber s at) 0 whole
@@ -139,6 +157,7 @@ module _ (s : List ℕ) (at : ℕ) where
             left = tested .left ∙ fault-next (entryNumber s at) h (fits-entry fits) ∙ ap (faultsFrom (entryNumber s at) whole) (add-one j);
             is-ceiling = is-time;
             is-floor = is-next ∙ add-one e ∙ ap suc is-energy;
+            from-least = omega (arith, is-next, tested .from-least, floor-below e floor energy-test passed);
           })
         where
           fits : EntryFits s at j

@@ -8,11 +8,13 @@ use lib.Dec.{leb, ltb}
 use lib.ListN.{length}
 use borrow.Author.Tests.{leb-true, ltb-true, lt-ltb, not-false}
 use Rattle.refusals.proofs.Order.{all-pass}
+use Rattle.network.specs.Versions.{leastEnergy}
+use Rattle.network.specs.NetworkFile.{versionOf}
 use Rattle.forest.specs.LabelFile.{countAt, timeAt, energyAt, energyEnd, listEnd}
 use Rattle.stored.specs.ListForm.{mostFigure, entryNumber, listNumber}
 use Rattle.stored.specs.working.Scanned.{timeBelow, energyFrom, PassedSome}
 use Rattle.stored.specs.working.Runs.{Flagged, EnergyFollows, Leading, SingleList, Quick, OneMore}
-use Rattle.stored.proofs.Lists.{fits-entry, rules-energy}
+use Rattle.stored.proofs.Lists.{entry-fits, fits-entry, energy-rules, rules-energy}
 use Rattle.stored.proofs.Entries.{time-tested, energy-tested, list-by-entries}
 use Rattle.stored.proofs.Scan.{passed-none, passed-more}
 
@@ -49,27 +51,29 @@ energy-follows {before} {e} {x} small passed rises holds =
 module _ (s : List ℕ) (at : ℕ) where
   -- a first entry whose flag is 1 keeps the rules
   pub first-flagged :
-      {x y : Bool} {t e r : ℕ} → energyEnd at 0 ≤ length s → t ≡ timeAt s at 0 → x ≡ timeBelow (suc mostFigure) t → e ≡ energyAt s at 0 →
-      y ≡ energyFrom 1 e → Flagged ((x ≡ true) × (y ≡ true)) r → Flagged (entryNumber s at 0 ≡ 0) r
-  first-flagged inside is-time timed is-energy tested =
+      {x y : Bool} {t e r least : ℕ} → energyEnd at 0 ≤ length s → least ≡ leastEnergy (versionOf s) → t ≡ timeAt s at 0 →
+      x ≡ timeBelow (suc mostFigure) t → e ≡ energyAt s at 0 → y ≡ energyFrom least e → Flagged ((x ≡ true) × (y ≡ true)) r →
+      Flagged (entryNumber s at 0 ≡ 0) r
+  first-flagged inside is-least is-time timed is-energy tested =
       flagged-so
       (λ hold.
       fits-entry
       (record {
         inside = omega arith;
         time-fits = sym (time-tested s at 0 refl is-time timed) ∙ hold .0;
-        energy-fits = sym (energy-tested s at 0 refl is-energy tested) ∙ hold .1;
+        energy-fits = sym (energy-tested s at 0 (omega (arith, is-least)) is-least is-energy tested) ∙ hold .1;
       }))
 
-  -- and so does a second
+  -- and so does a second behind it
   pub second-flagged :
       {x y : Bool} {t e r before-time before-energy : ℕ} → energyEnd at 1 ≤ length s → before-time ≡ timeAt s at 0 → t ≡ timeAt s at 1 →
       x ≡ timeBelow before-time t → before-energy ≡ energyAt s at 0 → e ≡ energyAt s at 1 → (y ≡ true → EnergyFollows before-energy e) →
-      Flagged ((x ≡ true) × (y ≡ true)) r → Flagged (entryNumber s at 1 ≡ 0) r
+      Flagged ((x ≡ true) × (y ≡ true)) r → Flagged (entryNumber s at 0 ≡ 0 → entryNumber s at 1 ≡ 0) r
   second-flagged inside is-before is-time timed is-first is-energy follows =
       flagged-so
-      (λ hold.
+      (λ hold first.
       let kept = follows (hold .1) in
+      let before = energy-rules (entry-fits s at 0 first .energy-fits) in
       fits-entry
       (record {
         inside = omega arith;
@@ -77,7 +81,7 @@ module _ (s : List ℕ) (at : ℕ) where
         energy-fits =
             rules-energy
             (record {
-              least = omega (arith, kept .rises);
+              least = omega (arith, kept .rises, before .least);
               most = omega (arith, kept .most);
               follows = lt-ltb (energyAt s at 0) (energyAt s at 1) (omega (arith, kept .rises));
             });
@@ -85,7 +89,7 @@ module _ (s : List ℕ) (at : ℕ) where
 
 -- the first entry counts by itself, and the second with the first
 pub leading-counted :
-    {s : List ℕ} {at first second : ℕ} → Flagged (entryNumber s at 0 ≡ 0) first → Flagged (entryNumber s at 1 ≡ 0) second →
+    {s : List ℕ} {at first second : ℕ} → Flagged (entryNumber s at 0 ≡ 0) first → Flagged (entryNumber s at 0 ≡ 0 → entryNumber s at 1 ≡ 0) second →
     Leading s at (first + first * second)
 leading-counted {s} {at} {first} {second} one two = record { few = omega (arith, one .small, small); fit = fit }
   where
@@ -98,7 +102,9 @@ leading-counted {s} {at} {first} {second} one two = record { few = omega (arith,
         some : (a : ℕ) → 0 < a + a * second → 1 ≤ a
         some zero l = absurd (omega arith)
         some (suc a) l = omega arith
-    fit (suc zero) h = two .holds (product-both first second (one .small) (omega (arith, one .small)) .1)
+    fit (suc zero) h =
+        let both = product-both first second (one .small) (omega (arith, one .small)) in
+        two .holds (both .1) (one .holds (both .0))
     fit (suc (suc j)) h = absurd (omega (arith, one .small, small))
 
 -- ---- A list of entries that keep the rules

@@ -1,5 +1,4 @@
 // Runs of short lists, passed with few tests: lists of one entry each, and lists of at most two. A list that ends a run is left to the whole test.
-use crate::stored::LEAST_ENERGY;
 use crate::stored::MOST_FIGURE;
 use crate::stored::count_at;
 use crate::stored::energy_at;
@@ -13,6 +12,8 @@ ghost use mathlib.Core.Path.{_≡_};
 ghost use mathlib.Core.Bool.{true};
 ghost use Prim.Native.Nat.{_≤_, _<_};
 ghost use lib.ListN.{length};
+ghost use Rattle.network.specs.Versions.{leastEnergy};
+ghost use Rattle.network.specs.NetworkFile.{versionOf};
 ghost use Rattle.forest.specs.LabelFile.{energyEnd};
 ghost use Rattle.stored.specs.ListForm.{mostBytes, mostCount, entryNumber};
 ghost use Rattle.stored.specs.working.Scanned.{PassedSome};
@@ -72,22 +73,23 @@ fn energy_follows(before: Energy, energy: Energy) -> bool
 }
 
 // 1 if the first entry keeps the rules.
-fn first_entry(labels: &[u8], at: usize) -> u32
+fn first_entry(labels: &[u8], least: Energy, at: usize) -> u32
     requires { ⌜ energyEnd at 0 ≤ length (now labels) ⌝ }
+    requires { ⌜ least .0 ≡ leastEnergy (versionOf (now labels)) ⌝ }
     ensures { λ r. ⌜ Flagged (entryNumber (now (labels .entry)) at 0 ≡ 0) r ⌝ }
 {
     let time = time_at(labels, at, 0);
     let energy = energy_at(labels, at, 0);
     both(
         time_fits(Seconds(MOST_FIGURE + 1), time),
-        energy_fits(Energy(LEAST_ENERGY), energy),
+        energy_fits(least, energy),
     )
 }
 
-// 1 if the second does.
+// 1 if the second does, provided that the first does: what follows a fit energy is no less than the least.
 fn second_entry(labels: &[u8], at: usize) -> u32
     requires { ⌜ energyEnd at 1 ≤ length (now labels) ⌝ }
-    ensures { λ r. ⌜ Flagged (entryNumber (now (labels .entry)) at 1 ≡ 0) r ⌝ }
+    ensures { λ r. ⌜ Flagged (entryNumber (now (labels .entry)) at 0 ≡ 0 → entryNumber (now (labels .entry)) at 1 ≡ 0) r ⌝ }
 {
     let time = time_at(labels, at, 1);
     let energy = energy_at(labels, at, 1);
@@ -98,24 +100,26 @@ fn second_entry(labels: &[u8], at: usize) -> u32
 }
 
 // How many of the first two places for entries hold some that keep the rules, up to the first that does not.
-fn leading(labels: &[u8], at: usize) -> u32
+fn leading(labels: &[u8], least: Energy, at: usize) -> u32
     requires { ⌜ energyEnd at 1 ≤ length (now labels) ⌝ }
+    requires { ⌜ least .0 ≡ leastEnergy (versionOf (now labels)) ⌝ }
     ensures { λ r. ⌜ Leading (now (labels .entry)) at r ⌝ }
 {
-    let first = first_entry(labels, at);
+    let first = first_entry(labels, least, at);
     let second = second_entry(labels, at);
     first + first * second
 }
 
 // Whether the list at a byte has one entry, which keeps the rules.
-fn single_fits(labels: &[u8], at: usize) -> bool
+fn single_fits(labels: &[u8], least: Energy, at: usize) -> bool
     requires { ⌜ energyEnd at 0 ≤ length (now labels) ⌝ }
+    requires { ⌜ least .0 ≡ leastEnergy (versionOf (now labels)) ⌝ }
     ensures { λ r. ⌜ (r ≡ true → SingleList (now (labels .entry)) at) ⌝ }
 {
     if count_at(labels, at) != 1 {
         return false;
     }
-    first_entry(labels, at) == 1
+    first_entry(labels, least, at) == 1
 }
 
 // All of the lists if they stand in so many bytes though each has two entries, or else none.
@@ -130,9 +134,10 @@ fn quick_lists(bytes: usize, lists: u32) -> u32
 }
 
 // Passes over lists of one entry each, up to the first that is none. The next place does not wait for a count.
-pub fn pass_single(labels: &[u8], at: usize, lists: u32, total: usize) -> Run
+pub fn pass_single(labels: &[u8], least: Energy, at: usize, lists: u32, total: usize) -> Run
     requires { ⌜ (at ≤ length (now labels)) × (length (now labels) ≤ mostBytes) ⌝ }
     requires { ⌜ total ≤ at ⌝ }
+    requires { ⌜ least .0 ≡ leastEnergy (versionOf (now labels)) ⌝ }
     ensures { λ r. ⌜ PassedSome (now (labels .entry)) at lists total (r .lists) (r .at) (r .total) ⌝ }
 {
     let end = quick_lists(labels.len() - at, lists);
@@ -143,7 +148,7 @@ pub fn pass_single(labels: &[u8], at: usize, lists: u32, total: usize) -> Run
     };
     while run.lists < end {
         let here = run.at;
-        if !single_fits(labels, here) {
+        if !single_fits(labels, least, here) {
             return run;
         }
         run = run.more(1);
@@ -152,9 +157,10 @@ pub fn pass_single(labels: &[u8], at: usize, lists: u32, total: usize) -> Run
 }
 
 // Passes over lists of at most two entries, up to the first that is longer or has a fault.
-pub fn pass_short(labels: &[u8], at: usize, lists: u32, total: usize) -> Run
+pub fn pass_short(labels: &[u8], least: Energy, at: usize, lists: u32, total: usize) -> Run
     requires { ⌜ (at ≤ length (now labels)) × (length (now labels) ≤ mostBytes) ⌝ }
     requires { ⌜ total ≤ at ⌝ }
+    requires { ⌜ least .0 ≡ leastEnergy (versionOf (now labels)) ⌝ }
     ensures { λ r. ⌜ PassedSome (now (labels .entry)) at lists total (r .lists) (r .at) (r .total) ⌝ }
 {
     let end = quick_lists(labels.len() - at, lists);
@@ -166,7 +172,7 @@ pub fn pass_short(labels: &[u8], at: usize, lists: u32, total: usize) -> Run
     while run.lists < end {
         let here = run.at;
         let count = count_at(labels, here);
-        if leading(labels, here) < count {
+        if leading(labels, least, here) < count {
             return run;
         }
         run = run.more(count);

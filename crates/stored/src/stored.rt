@@ -6,6 +6,8 @@ use bytes::u16_at;
 use bytes::u32_at;
 use forest::parents::lists_from;
 use network::header::junctions_of;
+use network::header::version_of;
+use network::versions::least_energy;
 use paths::energy::Energy;
 use paths::seconds::Seconds;
 use tables::STARTS;
@@ -15,6 +17,8 @@ ghost use lib.ListN.{length};
 ghost use Rattle.tables.specs.working.Layout.{tablePlaces};
 ghost use Rattle.refusals.specs.Order.{firstFault};
 ghost use Rattle.bytes.specs.working.Reads.{Read16};
+ghost use Rattle.network.specs.Versions.{leastEnergy};
+ghost use Rattle.network.specs.NetworkFile.{versionOf};
 ghost use Rattle.forest.specs.LabelFile.{countAt, timeAt, energyAt, countEnd, entriesEnd, timeEnd, energyEnd, listEnd};
 ghost use Rattle.stored.specs.ListForm.{mostBytes, mostCount, entryNumber, listNumber};
 ghost use Rattle.forest.specs.working.Fits.{ParentsFit, DepthsFilled};
@@ -22,10 +26,8 @@ ghost use Rattle.stored.specs.working.Scanned.{timeCeiling, timeBelow, e
 
 const MOST_COUNT: usize = 4095;
 
-// "each 1 to 67,042,305": the least time, the least energy and the most of either
+// "each 1 to 67,042,305": the least time, and the most of either figure; the least energy is the version's
 const LEAST_TIME: u32 = 1;
-
-pub const LEAST_ENERGY: u32 = 1;
 
 pub const MOST_FIGURE: u32 = 67042305;
 
@@ -112,12 +114,13 @@ fn cut_entry_number(labels: &[u8], at: usize, j: usize) -> u32
 }
 
 // The number of the first entries of a list, all of which stand whole in the file. Each is read once.
-fn entries_number(labels: &[u8], at: usize, whole: usize) -> u32
+fn entries_number(labels: &[u8], least: Energy, at: usize, whole: usize) -> u32
     requires { ⌜ entriesEnd at whole ≤ length (now labels) ⌝ }
+    requires { ⌜ least .0 ≡ leastEnergy (versionOf (now labels)) ⌝ }
     ensures { λ r. ⌜ r ≡ firstFault (entryNumber (now (labels .entry)) at) 0 whole ⌝ }
 {
     let mut ceiling = Seconds(MOST_FIGURE + 1);
-    let mut floor = Energy(LEAST_ENERGY);
+    let mut floor = least;
     let mut j: usize = 0;
     while j < whole {
         let time = time_at(labels, at, j);
@@ -147,8 +150,9 @@ fn entries_inside(bytes: usize, count: usize) -> usize
 }
 
 // The number of the list at a byte: 11, 17 or 0.
-pub fn list_number(labels: &[u8], at: usize) -> u32
+pub fn list_number(labels: &[u8], least: Energy, at: usize) -> u32
     requires { ⌜ (at ≤ length (now labels)) × (length (now labels) ≤ mostBytes) ⌝ }
+    requires { ⌜ least .0 ≡ leastEnergy (versionOf (now labels)) ⌝ }
     ensures { λ r. ⌜ r ≡ listNumber (now (labels .entry)) at ⌝ }
 {
     if labels.len() < at + 2 {
@@ -159,7 +163,7 @@ pub fn list_number(labels: &[u8], at: usize) -> u32
         return 17;
     }
     let whole = entries_inside(labels.len() - at - 2, count);
-    let number = entries_number(labels, at, whole);
+    let number = entries_number(labels, least, at, whole);
     if number != 0 {
         return number;
     }
@@ -178,9 +182,10 @@ pub struct Scan {
 }
 
 // Passes over so many lists, whatever their lengths.
-fn scan_some(labels: &[u8], at: usize, lists: u32, total: usize) -> Scan
+fn scan_some(labels: &[u8], least: Energy, at: usize, lists: u32, total: usize) -> Scan
     requires { ⌜ (at ≤ length (now labels)) × (length (now labels) ≤ mostBytes) ⌝ }
     requires { ⌜ total ≤ at ⌝ }
+    requires { ⌜ least .0 ≡ leastEnergy (versionOf (now labels)) ⌝ }
     ensures { λ r. ⌜ ScannedSome (now (labels .entry)) at lists total (r .number) (r .at) (r .total) ⌝ }
 {
     let mut place = Place { at: at };
@@ -188,7 +193,7 @@ fn scan_some(labels: &[u8], at: usize, lists: u32, total: usize) -> Scan
     let mut k: u32 = 0;
     while k < lists {
         let here = place.at;
-        let number = list_number(labels, here);
+        let number = list_number(labels, least, here);
         if number != 0 {
             return Scan {
                 number: number,
@@ -209,15 +214,16 @@ fn scan_some(labels: &[u8], at: usize, lists: u32, total: usize) -> Scan
 }
 
 // Passes over the lists of one junction, as many as its depth: a run of single entries, a run of short lists, and what is left.
-fn scan_junction(labels: &[u8], at: usize, depth: u32, total: usize) -> Scan
+fn scan_junction(labels: &[u8], least: Energy, at: usize, depth: u32, total: usize) -> Scan
     requires { ⌜ (at ≤ length (now labels)) × (length (now labels) ≤ mostBytes) ⌝ }
     requires { ⌜ total ≤ at ⌝ }
+    requires { ⌜ least .0 ≡ leastEnergy (versionOf (now labels)) ⌝ }
     ensures { λ r. ⌜ ScannedSome (now (labels .entry)) at depth total (r .number) (r .at) (r .total) ⌝ }
 {
-    let single = pass_single(labels, at, depth, total);
-    let short = pass_short(labels, single.at, depth - single.lists, single.total);
+    let single = pass_single(labels, least, at, depth, total);
+    let short = pass_short(labels, least, single.at, depth - single.lists, single.total);
     let left = depth - single.lists - short.lists;
-    scan_some(labels, short.at, left, short.total)
+    scan_some(labels, least, short.at, left, short.total)
 }
 
 // Passes over all lists once, and notes where each junction's start.
@@ -228,6 +234,7 @@ pub fn scan_lists(labels: &[u8], depths: &[u32; 1024], tables: &mut [u32; 13312]
     requires { ⌜ length (now tables) ≡ tablePlaces ⌝ }
     ensures { λ r. ⌜ Scanned (now (labels .entry)) (now (tables .exit)) (r .number) (r .at) (r .total) ⌝ }
 {
+    let least = least_energy(version_of(labels));
     let n = junctions_of(labels) as usize;
     let mut at = lists_from(labels);
     let mut total: usize = 0;
@@ -235,7 +242,7 @@ pub fn scan_lists(labels: &[u8], depths: &[u32; 1024], tables: &mut [u32; 13312]
     while v < n {
         tables[STARTS + v] = at as u32;
         let depth = depths[v];
-        let scan = scan_junction(labels, at, depth, total);
+        let scan = scan_junction(labels, least, at, depth, total);
         if scan.number != 0 {
             return scan;
         }

@@ -10,8 +10,8 @@ time-at-requires c κs = search needs
 energy-at-requires : tie.Need-energy-at-requires
 energy-at-requires c κs = search needs
 
-add-t6 : tie.Need-add-t6
-add-t6 c = search needs
+add-t7 : tie.Need-add-t7
+add-t7 c = search needs
 
 time-fits-requires : tie.Need-time-fits-requires
 time-fits-requires c κs = search needs
@@ -31,7 +31,7 @@ first-entry-spec =
     (tie.spec
     time-at-requires
     energy-at-requires
-    add-t6
+    add-t7
     time-fits-requires
     energy-fits-requires
     both-requires

@@ -7,10 +7,10 @@ use Rattle.stored.proofs.runs.pass_short.Statement.{statement}
 use Rattle.stored.proofs.runs.pass_short.Tie as tie
 
 abbrev Inv-loop : tie.InvT-loop
-Inv-loop labels at lists total end run₀ run = Running labels at lists total end (run .lists) (run .at) (run .total)
+Inv-loop labels least at lists total end run₀ run = Running labels at lists total end (run .lists) (run .at) (run .total)
 
 abbrev μ-loop : tie.MeasureT-loop
-μ-loop labels at lists total end run₀ run = end - run .lists
+μ-loop labels least at lists total end run₀ run = end - run .lists
 
 sub-quick-lists : tie.Need-sub-quick-lists Inv-loop μ-loop
 sub-quick-lists c = search needs

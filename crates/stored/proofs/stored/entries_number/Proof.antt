@@ -12,11 +12,11 @@ Inv-loop labels at whole ceiling₀ floor₀ j₀ ceiling floor j = Tested label
 abbrev μ-loop : tie.MeasureT-loop
 μ-loop labels at whole ceiling₀ floor₀ j₀ ceiling floor j = whole - j
 
-add-t9 : tie.Need-add-t9 Inv-loop μ-loop
-add-t9 c = search needs
+add-t10 : tie.Need-add-t10 Inv-loop μ-loop
+add-t10 c = search needs
 
 loop-holds : tie.Need-loop-holds Inv-loop μ-loop
-loop-holds c = tested-none _ _ _
+loop-holds c = tested-none _ _ _ (c .before .pre .1)
 
 time-at-requires : tie.Need-time-at-requires Inv-loop μ-loop
 time-at-requires c κs = search needs
@@ -30,7 +30,7 @@ time-fits-requires c κs = search needs
 returns : tie.Need-returns Inv-loop μ-loop
 returns c =
     let turn = c .before .before .before in
-    tested-bad-time _ _ (turn .before .before .loop .inv) (turn .before .loop-test .taken) (turn .before .before .before .before .pre)
+    tested-bad-time _ _ (turn .before .before .loop .inv) (turn .before .loop-test .taken) (turn .before .before .before .before .pre .0)
     (turn .time-at .ensures) (c .before .time-fits .ensures)
     (c .if1 .taken)
 
@@ -41,7 +41,7 @@ returns-2 : tie.Need-returns-2 Inv-loop μ-loop
 returns-2 c =
     let timed = c .before .before .before in
     let turn = timed .before .before in
-    tested-bad-energy _ _ (turn .before .before .loop .inv) (turn .before .loop-test .taken) (turn .before .before .before .before .pre)
+    tested-bad-energy _ _ (turn .before .before .loop .inv) (turn .before .loop-test .taken) (turn .before .before .before .before .pre .0)
     (turn .time-at .ensures) (timed .time-fits .ensures)
     (c .before .before .if1 .left) (timed .before .energy-at .ensures) (c .before .energy-fits .ensures)
     (c .if2 .taken)
@@ -61,7 +61,7 @@ loop-again : tie.Need-loop-again Inv-loop μ-loop
 loop-again c =
     let timed = c .before .before .before .before in
     let turn = timed .before .before in
-    tested-more _ _ (turn .before .before .loop .inv) (turn .before .loop-test .taken) (turn .before .before .before .before .pre)
+    tested-more _ _ (turn .before .before .loop .inv) (turn .before .loop-test .taken) (turn .before .before .before .before .pre .0)
     (turn .time-at .ensures) (timed .time-fits .ensures)
     (c .before .before .before .if1 .left) (timed .before .energy-at .ensures) (c .before .before .energy-fits .ensures)
     (c .before .if2 .left) (c .plus .ensures)
@@ -75,7 +75,7 @@ entries-number-spec =
     (tie.spec
     Inv-loop
     μ-loop
-    add-t9
+    add-t10
     loop-holds
     time-at-requires
     energy-at-requires

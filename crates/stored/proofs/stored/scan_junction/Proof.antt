@@ -13,7 +13,7 @@ sub-pass-short : tie.Need-sub-pass-short
 sub-pass-short c = search needs
 
 pass-short-requires : tie.Need-pass-short-requires
-pass-short-requires c κs = omega (arith, passed-counts _ _ _ _ (c .before .pass-single .ensures) (c .before .before .before .pre .1))
+pass-short-requires c κs = omega (arith, passed-counts _ _ _ _ (c .before .pass-single .ensures) (c .before .before .before .pre .1 .0))
 
 sub-left : tie.Need-sub-left
 sub-left c = search needs
@@ -25,7 +25,7 @@ scan-some-requires : tie.Need-scan-some-requires
 scan-some-requires c κs =
     let short = c .before .before in
     let single = short .before .before in
-    let counts = passed-counts _ _ _ _ (single .pass-single .ensures) (single .before .before .pre .1) in
+    let counts = passed-counts _ _ _ _ (single .pass-single .ensures) (single .before .before .pre .1 .0) in
     omega (arith, passed-counts _ _ _ _ (short .pass-short .ensures) counts)
 
 returns : tie.Need-returns

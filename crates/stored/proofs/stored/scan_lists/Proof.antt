@@ -8,10 +8,16 @@ use Rattle.stored.proofs.stored.scan_lists.Statement.{statement}
 use Rattle.stored.proofs.stored.scan_lists.Tie as tie
 
 abbrev Inv-loop : tie.InvT-loop
-Inv-loop labels depths tables₀ n at₀ total₀ v₀ tables at total v = AllPassed labels v at total tables
+Inv-loop labels depths tables₀ least n at₀ total₀ v₀ tables at total v = AllPassed labels v at total tables
 
 abbrev μ-loop : tie.MeasureT-loop
-μ-loop labels depths tables₀ n at₀ total₀ v₀ tables at total v = n - v
+μ-loop labels depths tables₀ least n at₀ total₀ v₀ tables at total v = n - v
+
+version-of-requires : tie.Need-version-of-requires Inv-loop μ-loop
+version-of-requires c κs = search needs
+
+least-energy-requires : tie.Need-least-energy-requires Inv-loop μ-loop
+least-energy-requires c κs = search needs
 
 junctions-of-requires : tie.Need-junctions-of-requires Inv-loop μ-loop
 junctions-of-requires c κs = search needs
@@ -24,7 +30,7 @@ lists-from-requires c κs = search needs
 
 loop-holds : tie.Need-loop-holds Inv-loop μ-loop
 loop-holds c =
-    let pre = c .before .before .before .pre in
+    let pre = c .before .before .before .before .before .pre in
     all-none _ (pre .0) (c .lists-from .ensures) (pre .1 .1 .1)
 
 cast-tables : tie.Need-cast-tables Inv-loop μ-loop
@@ -51,7 +57,7 @@ scan-junction-requires c κs = search needs
 returns : tie.Need-returns Inv-loop μ-loop
 returns c =
     let turn = c .before .before .before .before in
-    all-fault _ (turn .before .loop .inv) (omega arith) (turn .before .before .before .before .before .pre .1 .0) refl
+    all-fault _ (turn .before .loop .inv) (omega arith) (turn .before .before .before .before .before .before .before .pre .1 .0) refl
     (c .before .before .scan-junction .ensures) (c .if1 .taken)
 
 add-v : tie.Need-add-v Inv-loop μ-loop
@@ -63,7 +69,7 @@ loop-less c = search needs
 loop-again : tie.Need-loop-again Inv-loop μ-loop
 loop-again c =
     let turn = c .before .before .before .before in
-    let pre = turn .before .before .before .before .before .pre in
+    let pre = turn .before .before .before .before .before .before .before .pre in
     all-more _ (turn .before .loop .inv) (omega arith) (pre .1 .0) refl (c .before .before .scan-junction .ensures)
     (pre .0 .few-junctions) (c .if1 .left)
 
@@ -76,6 +82,8 @@ scan-lists-spec =
     (tie.spec
     Inv-loop
     μ-loop
+    version-of-requires
+    least-energy-requires
     junctions-of-requires
     cast-n
     lists-from-requires

@@ -7,10 +7,10 @@ use Rattle.stored.proofs.stored.scan_some.Statement.{statement}
 use Rattle.stored.proofs.stored.scan_some.Tie as tie
 
 abbrev Inv-loop : tie.InvT-loop
-Inv-loop labels at lists total place₀ sum₀ k₀ place sum k = PassedSome labels at lists total k (place .at) sum
+Inv-loop labels least at lists total place₀ sum₀ k₀ place sum k = PassedSome labels at lists total k (place .at) sum
 
 abbrev μ-loop : tie.MeasureT-loop
-μ-loop labels at lists total place₀ sum₀ k₀ place sum k = lists - k
+μ-loop labels least at lists total place₀ sum₀ k₀ place sum k = lists - k
 
 loop-holds : tie.Need-loop-holds Inv-loop μ-loop
 loop-holds c = passed-none _ _ _ _ (c .before .pre .0 .0)
