@@ -21,7 +21,7 @@ use Rattle.forest.specs.LabelFile.{parentAt, noParent}
 use Rattle.forest.specs.Forest.{stepsUp, depthOf, ancestorOf, parentFits, chainEnds, isAncestor, roadJoins}
 use Rattle.forest.specs.working.Fits.{ParentsFit, DepthsFilled}
 use Rattle.forest.specs.working.ParentsRead.{ParentsStand, Climbable, NoneKnown, DepthsKnown, DepthFound, DepthsWritten, DepthSettled, ParentsTested, AncestorRead}
-use Rattle.forest.proofs.Chains.{IsRoot, AllFit, parent-on-map, steps-none, steps-root, steps-parent, steps-below, steps-capped, depth-parent, depth-some, ancestor-none, ancestor-more, parents-fit, climbed}
+use Rattle.forest.proofs.Chains.{IsRoot, AllFit, parent-on-map, steps-none, steps-root, steps-parent, steps-below, steps-capped, depth-parent, depth-some, ancestor-none, ancestor-more, climbed}
 
 -- ---- A test of every number below n
 
@@ -346,10 +346,6 @@ module _
 
           depth : (w : ℕ) → w < junctionsOf s → getD depths w 0 ≡ depthOf s w
           depth w l = now .known .right w l (below w l)
-
--- parents that were tested and pass are fit to be read further
-pub tested-fit : {s depths : List ℕ} {r : Bool} → ParentsStand s → ParentsTested s depths r → r ≡ true → ParentsFit s
-tested-fit stand tested e = parents-fit stand (sym (tested .is) ∙ e)
 
 -- ---- Climbing k steps
 

@@ -1,7 +1,7 @@
 -- "a parent chain that returns" is one that has not ended after n steps: n steps on the map meet n + 1 junctions, so one twice.
 -- In this order: the junctions that a chain meets; chains that do not return end; chains that end do not return; what 15 tests.
 use mathlib.Core.Path.{_≡_, refl, ap}
-use mathlib.Core.Bool.{true, _&&_}
+use mathlib.Core.Bool.{true}
 use mathlib.Core.Logic.{_⊎_, inl, inr, ⊎-elim}
 use mathlib.Core.List.{List, [], _∷_, List·Memᴰ, List·Memᴰ·cases-cons, List·Memᴰ·not-nil}
 use Prim.Native.Nat.{ℕ, zero, suc, _-_, _≤_, _<_}
@@ -13,7 +13,6 @@ use Rattle.paths.specs.Route.{NoneTwice, none, next}
 use Rattle.paths.specs.Forest.{Ancestor, Returns}
 use Rattle.paths.proofs.Route.{visits-once-short}
 use Rattle.paths.proofs.Forest.{above-child}
-use Rattle.refusals.specs.Order.{every}
 use Rattle.refusals.proofs.Order.{and-true, every-all}
 use Rattle.network.specs.NetworkFile.{junctionsOf}
 use Rattle.forest.specs.LabelFile.{parentAt, parentsOf}

@@ -2,7 +2,7 @@
 -- once per call, a root's being 0."). `proofs/Forest.antt` shows that these are the depths and ancestors of the paths' definitions.
 use mathlib.Core.Bool.{Bool, cond, _&&_, _||_}
 use mathlib.Core.List.{List}
-use Prim.Native.Nat.{ℕ, zero, suc, _+_, _-_}
+use Prim.Native.Nat.{ℕ, zero, suc, _-_}
 use lib.Dec.{leb, ltb, eqb}
 use Rattle.refusals.specs.Order.{every}
 use Rattle.network.specs.NetworkFile.{junctionsOf, roadLow, roadHigh}

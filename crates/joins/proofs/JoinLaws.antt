@@ -3,10 +3,10 @@
 -- limited figure it is the last entry within the limit.
 use mathlib.Core.Path.{_∙_}
 use mathlib.Core.Logic.{_↔_}
-use mathlib.Core.List.{List, [], List·Memᴰ, List·Memᴰ·not-nil}
+use mathlib.Core.List.{List, List·Memᴰ}
 use Prim.Native.Nat.{ℕ}
 use Rattle.paths.specs.Figures.{Figures, Lawful}
-use Rattle.paths.specs.Weights.{weights, energy, Within, Covered, none}
+use Rattle.paths.specs.Weights.{weights, energy, Within, Covered}
 use Rattle.paths.specs.TradeOff.{IsSum, UnbeatenSum, IsJoin}
 use Rattle.paths.specs.Answer.{BestSum, NoSum}
 use Rattle.paths.proofs.Figures.{number-lawful}
@@ -39,15 +39,6 @@ module _ {𝓛 : Figures} (lawful : Lawful 𝓛) where
         rising = j .rising;
         real = λ m. unbeaten-commutes (j .real m);
         complete = λ u. j .complete (unbeaten-commutes u);
-      }
-
-  -- The join of no entries has no entries
-  pub join-empty : {l : List Weight} → IsJoin 𝓛 [] l []
-  join-empty =
-      record {
-        rising = none;
-        real = λ m. absurd (List·Memᴰ·not-nil m);
-        complete = λ u. absurd (List·Memᴰ·not-nil (u .sum .in-first));
       }
 
   module _ {k l r : List Weight} (j : IsJoin 𝓛 k l r) where

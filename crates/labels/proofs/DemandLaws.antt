@@ -98,9 +98,6 @@ module _ {net s : List ℕ} {x y C number time units : ℕ} where
       only zero h = a
       only (suc i) h = absurd (omega arith)
 
-  pub gives-answers : Checked net s 0 → Gives net s x y C number time units ↔ Answers net x y C number time units
-  gives-answers c = (given-answer, answer-given c)
-
 -- ---- An answer
 
 pub answer-best :

@@ -49,12 +49,6 @@ module _ {s : List ℕ} (fits : NetworkFits s) {x y k : ℕ} {w : weights energy
       let high = fits .high-on-map k (arc .stands) in
       ⊎-elim (λ e. omega arith) (λ e. omega arith) (arc .ends)
 
-  -- the ends differ
-  pub arc-not-loop : x ≡ y → ⊥
-  arc-not-loop same =
-      let low = fits .low-below-high k (arc .stands) in
-      ⊎-elim (λ e. omega arith) (λ e. omega arith) (arc .ends)
-
   -- time and energy are of 16 bits, and no smaller than the version lets them be
   pub arc-figures : ((i : ℕ) → getD s i 0 < 256) → (1 ≤ time energy w) × (time energy w ≤ 65535) × (leastEnergy (versionOf s) ≤ spent energy w) × (spent energy w ≤ 65535)
   arc-figures bytes =

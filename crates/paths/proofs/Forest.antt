@@ -22,16 +22,6 @@ module _ (parent : Parents) where
     reached : Depth parent v depth
     larger : d < depth
 
-  -- A common ancestor of s and t
-  pub record HasCommon (s t : ℕ) : Type 0 where
-    pub top : ℕ
-    pub common : Common parent s t top
-
-  -- The junction where the branches of s and t meet
-  pub record HasDeepest (s t : ℕ) : Type 0 where
-    pub meeting : ℕ
-    pub deepest : Deepest parent s t meeting
-
 module _ {parent : Parents} where
   -- ---- Ancestors
 
@@ -140,56 +130,6 @@ module _ {parent : Parents} where
 
     pub ancestor? : (u v : ℕ) → Dec (Ancestor parent u v)
     ancestor? u v = or? (ℕ-discrete u v) (above? u v)
-
-    -- from s up, the first that is an ancestor of t is the deepest common ancestor
-    deepest-or-none : (s t : ℕ) → HasDeepest parent s t ⊎ (HasCommon parent s t → ⊥)
-    deepest-or-none s t = climb (forest .ends s) (ancestor? s t)
-      where
-        itself : {x : ℕ} → Ancestor parent x t → HasDeepest parent x t
-        itself {x} a =
-            record {
-              meeting = x;
-              deepest = record { common = record { of-start = inl refl; of-finish = a }; below-all = λ u c. c .of-start };
-            }
-
-        proper : {x u : ℕ} → (Ancestor parent x t → ⊥) → Common parent x t u → Above parent u x
-        proper n c = ⊎-elim (λ e. absurd (n (rw e at (c .of-finish)))) (λ h. h) (c .of-start)
-
-        -- where x is no ancestor of t, its parent y has the same common ancestors with t
-        up : {x y u : ℕ} → parent x ≡ some y → (Ancestor parent x t → ⊥) → Common parent x t u → Common parent y t u
-        up e n c = record { of-start = ancestor-of-parent e (proper n c); of-finish = c .of-finish }
-
-        down : {x y : ℕ} → parent x ≡ some y → (Ancestor parent x t → ⊥) → HasDeepest parent y t → HasDeepest parent x t
-        down e n z =
-            let c = z .deepest .common in
-            record {
-              meeting = z .meeting;
-              deepest =
-                  record {
-                    common = record { of-start = inr (above-child e (c .of-start)); of-finish = c .of-finish };
-                    below-all = λ u k. z .deepest .below-all u (up e n k);
-                  };
-            }
-
-        climb : {x d : ℕ} → Depth parent x d → Dec (Ancestor parent x t) → HasDeepest parent x t ⊎ (HasCommon parent x t → ⊥)
-        climb (root e) (yes a) = inl (itself a)
-        climb (root e) (no n) = inr (λ c. root-has-none e (proper n (c .common)))
-        climb (child e h) (yes a) = inl (itself a)
-        climb (child {w = y} e h) (no n) =
-            ⊎-elim
-            (λ z. inl (down e n z))
-            (λ apart. inr (λ c. apart (record { top = c .top; common = up e n (c .common) })))
-            (climb h (ancestor? y t))
-
-    -- where two junctions have a common ancestor they have a deepest one
-    pub deepest-exists : {s t u : ℕ} → Common parent s t u → HasDeepest parent s t
-    deepest-exists {s} {t} {u} c =
-        ⊎-elim (λ z. z) (λ apart. absurd (apart (record { top = u; common = c }))) (deepest-or-none s t)
-
-    -- whether two junctions are of one tree
-    pub common? : (s t : ℕ) → Dec (HasCommon parent s t)
-    common? s t =
-        ⊎-elim (λ z. yes (record { top = z .meeting; common = z .deepest .common })) (λ apart. no apart) (deepest-or-none s t)
 
     -- "the" deepest common ancestor: there is one
     pub deepest-unique : {s t l m : ℕ} → Deepest parent s t l → Deepest parent s t m → l ≡ m

@@ -11,7 +11,6 @@ use lib.ListN.{length}
 use Rattle.paths.specs.Figures.{Figures, Lawful}
 use Rattle.paths.specs.Weights.{weights, time, Beats}
 use Rattle.paths.specs.Network.{Network, Walk, stay, go, weight, junctions}
-use Rattle.paths.specs.TradeOff.{Skyline}
 use Rattle.paths.specs.Route.{NotAfter, ended, smaller, equal, NoneTwice, none, next, FirstAmong, FirstRoute}
 use Rattle.paths.proofs.Weights.{weights-lawful, part-⊑-right, ⊑-of-eq, beats-sum-right, beats-by-time}
 use Rattle.paths.proofs.Walks.{Split, split, split-weighs}
@@ -157,8 +156,3 @@ module _ {𝓛 : Figures} (lawful : Lawful 𝓛) where
         next
         (λ m. let z = split k m in unbeaten (z .after) (dropped-beats p (𝓝 .takes-time a) z))
         (unbeaten-visits-once k (λ other b. unbeaten (go a other) (beats-sum-right lawful p b)))
-
-    -- so the route of an unbeaten pair visits no junction twice
-    pub firstRoute-visits-once : {s t : ℕ} {p : Weight} {js : List ℕ} → Skyline 𝓝 s t p → FirstRoute 𝓝 s t p js → NoneTwice js
-    firstRoute-visits-once line route =
-        rw (route .meets) at (unbeaten-visits-once (route .walk) (λ other b. line .unbeaten other (rw (route .wanted) at b)))

@@ -91,10 +91,6 @@ module _ {𝓛 : Figures} (lawful : Lawful 𝓛) where
   beats-sum-right c b =
       record { no-larger = ⊕-mono-right W c (b .no-larger); smaller = λ e. b .smaller (⊕-cancel-eq-right W c e) }
 
-  pub beats-sum-left : (c : Weight) {p q : Weight} → Beats 𝓛 p q → Beats 𝓛 (p ⊕ c) (q ⊕ c)
-  beats-sum-left c b =
-      record { no-larger = W .⊕-mono c (b .no-larger); smaller = λ e. b .smaller (⊕-cancel-eq W c e) }
-
   -- what takes no more figures and less time beats
   pub beats-by-time : {p q : Weight} → p ⊑ q → time 𝓛 p < time 𝓛 q → Beats 𝓛 p q
   beats-by-time h k = record { no-larger = h; smaller = λ e. let z = ap (time 𝓛) e in omega arith }
@@ -141,13 +137,6 @@ module _ {𝓛 : Figures} (lawful : Lawful 𝓛) where
       pick (inr (inl e)) (inr (inl f)) = inl (same (λ i. record { first = f i; second = e i }))
       pick (inr (inl e)) (inr (inr k)) = inr (by-figures (sym e) k)
       pick (inr (inr h)) k = inr (by-time h)
-
-  pub notLater? : (p q : Weight) → Dec (NotLater 𝓛 p q)
-  notLater? p q = ⊎-elim (λ h. yes h) (λ h. no (λ k. clash h k)) (compare-answers p q)
-    where
-      clash : Sooner 𝓛 q p → NotLater 𝓛 p q → ⊥
-      clash h (sooner k) = sooner-irrefl (sooner-trans h k) refl
-      clash h (same e) = sooner-irrefl h (sym e)
 
   -- what is no larger is not later
   pub ⊑-notLater : {p q : Weight} → p ⊑ q → NotLater 𝓛 p q

@@ -1,6 +1,6 @@
 -- The first fault of some tests and of more behind them. In this order: a split; a prefix; the same tests counted from another number on.
 use mathlib.Core.Path.{_≡_, refl, sym, ap, _∙_}
-use Prim.Native.Nat.{ℕ, zero, suc, _+_, _-_, _≤_, _<_}
+use Prim.Native.Nat.{ℕ, zero, suc, _+_, _-_, _≤_}
 use native.Mathlib.Omega.{arith}
 use native.Mathlib.Nat.{add-zero, zero-add, add-suc, suc-add}
 use Rattle.refusals.specs.Order.{decided, firstFault}

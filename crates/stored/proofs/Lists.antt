@@ -1,24 +1,23 @@
--- One stored list and its number of 11 to 17. In this order: three tests in a row; the rules of one entry; a list whose number is 0 fits, and back; all
--- lists; what the entries of a list that fits are.
-use mathlib.Core.Path.{_≡_, refl, sym, ap, _∙_}
+-- One stored list and its number of 11 to 17. In this order: three tests in a row; the rules of one entry; a list whose number is 0 fits;
+-- all lists; what the entries of a list that fits are.
+use mathlib.Core.Path.{_≡_, sym, _∙_}
 use mathlib.Core.Bool.{Bool, true, false, not, _&&_}
-use mathlib.Core.List.{List, List·Memᴰ}
+use mathlib.Core.List.{List}
 use Prim.Native.Nat.{ℕ, zero, suc, _+_, _-_, _*_, _≤_, _<_}
 use native.Mathlib.Omega.{arith}
-use lib.Dec.{leb, ltb}
+use lib.Dec.{leb}
 use lib.ListN.{length}
-use borrow.Author.Tests.{leb-true, ltb-true, le-leb, lt-ltb, not-true, not-false}
-use Rattle.paths.specs.Weights.{weights, energy, pair, time, spent}
+use borrow.Author.Tests.{leb-true, ltb-true, le-leb, not-true, not-false}
+use Rattle.paths.specs.Weights.{pair}
 use Rattle.paths.specs.TradeOff.{Ordered, none, one, more}
 use Rattle.refusals.specs.Order.{unless, firstFault}
-use Rattle.refusals.proofs.Order.{unless-passed, and-both, and-true, and-false-left, and-false-right, no-fault, all-pass}
+use Rattle.refusals.proofs.Order.{unless-passed, and-both, and-true, and-false-left, and-false-right, no-fault}
 use Rattle.network.specs.Versions.{leastEnergy}
 use Rattle.network.specs.NetworkFile.{versionOf}
 use Rattle.forest.specs.LabelFile.{countAt, timeAt, energyAt, listEnd}
 use Rattle.stored.specs.Stored.{listsOf, placeOf, tabulate, listAt}
 use Rattle.stored.specs.ListForm.{mostCount, mostFigure, timeFollows, energyFollows, timeFits, energyFits, entryNumber, listNumber, listsNumber}
 use Rattle.stored.specs.working.Formed.{ListFits}
-use Rattle.stored.proofs.Tabulate.{Stands, member-stands}
 
 -- ---- Three tests in a row, of which the code makes each that is still asked
 
@@ -74,7 +73,7 @@ pub record EnergyRules (s : List ℕ) (at j : ℕ) : Type 0 where
   pub most : energyAt s at j ≤ mostFigure
   pub follows : energyFollows s at j ≡ true
 
--- the time's test holds exactly if its rules do
+-- a time whose test holds keeps the rules
 pub time-rules : {s : List ℕ} {at j : ℕ} → timeFits s at j ≡ true → TimeRules s at j
 unfolding timeFits
 time-rules {s} {at} {j} e =
@@ -82,11 +81,7 @@ time-rules {s} {at} {j} e =
     let b = and-both (leb 1 (timeAt s at j)) (leb (timeAt s at j) mostFigure) (a .0) in
     record { least = leb-true _ _ (b .0); most = leb-true _ _ (b .1); follows = a .1 }
 
-pub rules-time : {s : List ℕ} {at j : ℕ} → TimeRules s at j → timeFits s at j ≡ true
-unfolding timeFits
-rules-time h = and-true (and-true (le-leb _ _ (h .least)) (le-leb _ _ (h .most))) (h .follows)
-
--- likewise the energy's
+-- likewise an energy, and back
 pub energy-rules : {s : List ℕ} {at j : ℕ} → energyFits s at j ≡ true → EnergyRules s at j
 unfolding energyFits
 energy-rules {s} {at} {j} e =
@@ -98,7 +93,7 @@ pub rules-energy : {s : List ℕ} {at j : ℕ} → EnergyRules s at j → energy
 unfolding energyFits
 rules-energy h = and-true (and-true (le-leb _ _ (h .least)) (le-leb _ _ (h .most))) (h .follows)
 
--- ---- A list whose number is 0 fits, and back
+-- ---- A list whose number is 0 fits
 
 -- a list whose number is 0 fits
 pub list-fits : (s : List ℕ) (at : ℕ) → listNumber s at ≡ 0 → ListFits s at
@@ -136,41 +131,12 @@ list-fits s at e = built
           energy-rises = λ j h. ltb-true _ _ (units (suc j) h .follows);
         }
 
--- and back
-pub fits-list-number : {s : List ℕ} {at : ℕ} → ListFits s at → listNumber s at ≡ 0
-unfolding listNumber listEnd
-fits-list-number {s} {at} fits = rw (le-leb (at + 2) (length s) (omega (arith, fits .inside)), le-leb (countAt s at) mostCount (fits .short), passes)
-  where
-    time-follows : (j : ℕ) → j < countAt s at → timeFollows s at j ≡ true
-    time-follows zero h = refl
-    time-follows (suc j) h = lt-ltb _ _ (fits .time-falls j h)
-
-    energy-follows : (j : ℕ) → j < countAt s at → energyFollows s at j ≡ true
-    energy-follows zero h = refl
-    energy-follows (suc j) h = lt-ltb _ _ (fits .energy-rises j h)
-
-    entry : (j : ℕ) → j < countAt s at → EntryFits s at j
-    entry j h =
-        record {
-          inside = omega (arith, fits .inside);
-          time-fits = rules-time (record { least = fits .time-fits j h .0; most = fits .time-fits j h .1; follows = time-follows j h });
-          energy-fits = rules-energy (record { least = fits .energy-fits j h .0; most = fits .energy-fits j h .1; follows = energy-follows j h });
-        }
-
-    passes : firstFault (entryNumber s at) 0 (countAt s at) ≡ 0
-    passes = all-pass (entryNumber s at) (countAt s at) (λ j h l. fits-entry (entry j (omega arith)))
-
 -- ---- All lists
 
 -- where no list has a fault, every list fits
 pub lists-fit : (s : List ℕ) → listsNumber s ≡ 0 → {g : ℕ} → g < listsOf s → ListFits s (placeOf s g)
 unfolding listsNumber
 lists-fit s e {g} h = list-fits s (placeOf s g) (no-fault (λ g. listNumber s (placeOf s g)) (listsOf s) e (omega arith) (omega arith))
-
--- and back
-pub fits-lists-number : (s : List ℕ) → ((g : ℕ) → g < listsOf s → ListFits s (placeOf s g)) → listsNumber s ≡ 0
-unfolding listsNumber
-fits-lists-number s fit = all-pass (λ g. listNumber s (placeOf s g)) (listsOf s) (λ g h l. fits-list-number (fit g (omega arith)))
 
 -- ---- What the entries of a list that fits are
 
@@ -190,27 +156,3 @@ ordered-tabulate t e (suc (suc n)) rises falls =
 -- the entries of a list that fits are ordered
 pub list-ordered : {s : List ℕ} {at : ℕ} → ListFits s at → Ordered (listAt s at)
 list-ordered {s} {at} fits = ordered-tabulate (timeAt s at) (energyAt s at) (countAt s at) (fits .energy-rises) (fits .time-falls)
-
--- "each 1 to 67,042,305"
-pub record InRange (least : ℕ) (p : weights energy .Figure) : Type 0 where
-  pub takes-time : 1 ≤ time energy p
-  pub time-small : time energy p ≤ mostFigure
-  pub takes-energy : least ≤ spent energy p
-  pub energy-small : spent energy p ≤ mostFigure
-
--- every entry of a list that fits is in range
-pub list-in-range :
-    {s : List ℕ} {at : ℕ} {p : weights energy .Figure} → ListFits s at → List·Memᴰ p (listAt s at) → InRange (leastEnergy (versionOf s)) p
-list-in-range {s} {at} {p} fits m = built (member-stands (λ j. pair (timeAt s at j) (energyAt s at j)) (countAt s at) m)
-  where
-    built : Stands (λ j. pair (timeAt s at j) (energyAt s at j)) (countAt s at) p → InRange (leastEnergy (versionOf s)) p
-    built w =
-        let time-range = fits .time-fits (w .place) (w .below) in
-        let energy-range = fits .energy-fits (w .place) (w .below) in
-        rw (w .is)
-        (record {
-          takes-time = time-range .0;
-          time-small = time-range .1;
-          takes-energy = energy-range .0;
-          energy-small = energy-range .1;
-        })

@@ -1,6 +1,6 @@
 -- What follows for a pair of files that passed its form: the parents are a forest, roads run both ways and join related junctions,
 -- and each stored list stands whole, in order. In this order: where a stored list stands; the whole pair.
-use mathlib.Core.Path.{_≡_, refl}
+use mathlib.Core.Path.{refl}
 use mathlib.Core.List.{List}
 use Prim.Native.Nat.{ℕ, _+_, _-_, _<_}
 use native.Mathlib.Omega.{arith}
@@ -13,8 +13,8 @@ use Rattle.network.specs.NetworkFile.{networkOf, junctionsOf}
 use Rattle.network.proofs.Arcs.{two-way}
 use Rattle.forest.specs.LabelFile.{parentsOf}
 use Rattle.forest.specs.Forest.{depthOf}
-use Rattle.forest.proofs.Forest.{HasParent, parents-some, above-shallower, forest, roads-related}
-use Rattle.stored.specs.Stored.{listsBefore, listsOf, placeOf, listPlace, stored}
+use Rattle.forest.proofs.Forest.{parents-some, above-shallower, forest, roads-related}
+use Rattle.stored.specs.Stored.{listsBefore, listPlace, stored}
 use Rattle.stored.specs.working.Formed.{Formed, ListFits, FilesFit}
 use Rattle.stored.specs.working.Scanned.{FoundList}
 use Rattle.stored.proofs.Places.{list-number-of, found-fits}

@@ -10,7 +10,7 @@ use native.Mathlib.Decide.{ℕ-discrete}
 use lib.ListN.{length, getD}
 use Rattle.tables.specs.working.Layout.{startsFrom, firstsFrom, StaysBelow}
 use Rattle.network.specs.NetworkFile.{junctionsOf}
-use Rattle.forest.specs.LabelFile.{countAt, listEnd}
+use Rattle.forest.specs.LabelFile.{listEnd}
 use Rattle.forest.specs.Forest.{depthOf}
 use Rattle.stored.specs.Stored.{listsBefore, listsOf, placeOf, listPlace, entriesBefore}
 use Rattle.stored.specs.working.Formed.{startOf}
@@ -30,10 +30,6 @@ module _ (s : List ℕ) where
   pub place-next : (g : ℕ) → placeOf s (g + 1) ≡ listEnd s (placeOf s g)
   unfolding placeOf
   place-next g = rw (add-one g)
-
-  -- places rise from list to list
-  pub places-rise : (g : ℕ) → placeOf s g + 2 ≤ placeOf s (g + 1)
-  places-rise g = rw (place-next g) (list-takes (placeOf s g))
 
   -- ---- A number of lists further on
 
@@ -123,20 +119,11 @@ module _ (s : List ℕ) where
 
   -- ---- Entries and bytes
 
-  -- list number g brings its count
-  pub entries-next : (g : ℕ) → entriesBefore s (g + 1) ≡ entriesBefore s g + countAt s (placeOf s g)
-  unfolding entriesBefore
-  entries-next g = rw (add-one g)
-
   -- the bytes before list number g are the header, the parents, the counts and eight bytes for each entry
   pub place-counts : (g : ℕ) → placeOf s g ≡ 16 + 2 * junctionsOf s + 2 * g + 8 * entriesBefore s g
   unfolding placeOf listEnd entriesBefore
   place-counts zero = omega arith
   place-counts (suc g) = omega (arith, place-counts g)
-
-  -- so there are no more entries than bytes
-  pub entries-few : (g : ℕ) → entriesBefore s g ≤ placeOf s g
-  entries-few g = omega (arith, place-counts g)
 
   -- ---- Places inside the file
 

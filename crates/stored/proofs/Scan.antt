@@ -1,7 +1,7 @@
 -- Passing over lists: the laws of the two loops. In this order: the lists of one junction; the lists of all.
 use mathlib.Core.Path.{_≡_, refl, sym, ap, _∙_}
 use mathlib.Core.List.{List}
-use Prim.Native.Nat.{ℕ, _+_, _-_, _*_, _≤_, _<_}
+use Prim.Native.Nat.{ℕ, _+_, _-_, _≤_, _<_}
 use native.Mathlib.Omega.{arith}
 use native.Mathlib.Nat.{add-zero}
 use native.Mathlib.Decide.{ℕ-discrete}
@@ -17,7 +17,6 @@ use Rattle.stored.specs.Stored.{listsBefore, listsOf, placeOf, entriesBe
 use Rattle.stored.specs.working.Formed.{startOf}
 use Rattle.stored.specs.ListForm.{listNumber, listsNumber}
 use Rattle.forest.specs.working.Fits.{ParentsFit, DepthsFilled}
-use Rattle.stored.specs.working.Formed.{StartsFilled}
 use Rattle.stored.specs.working.Scanned.{further, ScannedSome, PassedSome, Scanned}
 use Rattle.stored.proofs.Faults.{faults-joined, faults-moved, fault-behind}
 use Rattle.stored.proofs.Lists.{list-fits}

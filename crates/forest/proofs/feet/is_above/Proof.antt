@@ -1,5 +1,4 @@
 -- Each step up leaves open whether u is above, until one foot or the depth of u tells.
-use native.Mathlib.Omega.{arith}
 use Rattle.forest.specs.Forest.{depthOf}
 use Rattle.forest.proofs.OneChain.{Lifting, lifting-meets, lifting-end, lifting-more, lifting-less}
 use borrow.Author.Needs.{needs}
