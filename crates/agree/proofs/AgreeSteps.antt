@@ -312,7 +312,7 @@ next-later net v k next e = omega (arith, nextRoad-low net v (suc k))
 module _ {net s tables places : List ℕ} {v u : ℕ} (input : AgreeInput net s tables places v u) where
   -- the junction has a place in the tables
   pub own-index : v < 1024
-  own-index = omega (arith, input .on-map, input .beside .labels .parents .few-junctions)
+  own-index = omega (arith, input .on-map, input .beside .formed .parents .few-junctions)
 
   -- the header stands in the file
   pub header-inside : 12 ≤ length net
@@ -324,7 +324,7 @@ module _ {net s tables places : List ℕ} {v u : ℕ} (input : AgreeInput net s 
 
   -- which fits
   pub own-fits : {at : ℕ} → at ≡ getD places v 0 → ListFits s at
-  own-fits at-is = rw (own-place at-is) (stored-fits (input .beside .labels) (input .above))
+  own-fits at-is = rw (own-place at-is) (stored-fits (input .beside .formed) (input .above))
 
   -- the first road
   pub first-is : {k : ℕ} → k ≡ getD tables (firstsFrom + v) 0 → k ≡ nextRoad net v 0

@@ -90,7 +90,7 @@ module _ {net s places : List ℕ} {v u k w : ℕ} (input : RoadInput net s plac
   -- and has a place in the table, as the ancestor has
   pub neighbour-index : (w < 1024) × (u < 1024)
   neighbour-index =
-      omega (arith, on-map, above-at (input .beside .labels .parents) (input .above) .on-map, input .beside .labels .parents .few-junctions)
+      omega (arith, on-map, above-at (input .beside .formed .parents) (input .above) .on-map, input .beside .formed .parents .few-junctions)
 
   -- where it is not the ancestor itself, the table has the byte of the list
   pub neighbour-rest : {at : ℕ} → (w ≡ u → ⊥) → at ≡ getD places w 0 → RestAt net s w u at
@@ -100,7 +100,7 @@ module _ {net s places : List ℕ} {v u k w : ℕ} (input : RoadInput net s plac
       pick : Related (parentsOf s) w u → RestAt net s w u at
       pick (inl (inl e)) = absurd (apart e)
       pick (inl (inr k)) =
-          rw (at-is ∙ input .places-for .above w on-map k) (record { fits = stored-fits (input .beside .labels) k; leaves = leaves-above (input .beside) k })
+          rw (at-is ∙ input .places-for .above w on-map k) (record { fits = stored-fits (input .beside .formed) k; leaves = leaves-above (input .beside) k })
       pick (inr (inl e)) = absurd (apart (sym e))
       pick (inr (inr k)) =
-          rw (at-is ∙ input .places-for .below w on-map k) (record { fits = stored-fits (input .beside .labels) k; leaves = leaves-below (input .beside) k })
+          rw (at-is ∙ input .places-for .below w on-map k) (record { fits = stored-fits (input .beside .formed) k; leaves = leaves-below (input .beside) k })

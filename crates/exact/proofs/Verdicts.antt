@@ -111,5 +111,5 @@ module _ {net s : List ℕ} (beside : FilesFit net s) {spots sizes order : List 
     where
       each : (v u : ℕ) → Above (parentsOf s) u v → Agrees net s v u
       each v u above =
-          let on-map = above-at (beside .labels .parents) above .on-map in
+          let on-map = above-at (beside .formed .parents) above .on-map in
           (rw (numbered .at-spot u on-map) at (agreed .so-far (getD spots u 0) (omega arith) (numbered .spot-below u on-map))) .agrees above

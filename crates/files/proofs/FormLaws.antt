@@ -146,7 +146,7 @@ files-fit {net} s network e =
     let same = same-network-size net s (parts .fits-passed) in
     record {
       network = network;
-      labels = parts-formed parts (omega (arith, network .some-junction, same)) (omega (arith, network .few-junctions, same));
+      formed = parts-formed parts (omega (arith, network .some-junction, same)) (omega (arith, network .few-junctions, same));
       one-map = same;
       joins = parts .joins-passed;
     }

@@ -108,7 +108,7 @@ module _
     (stands : k < roadsOf net) (low-is : ReadU16 net (16 + 8 * k) low) (high-is : ReadU16 net (18 + 8 * k) high)
   where
     fit : ParentsFit s
-    fit = beside .labels .parents
+    fit = beside .formed .parents
 
     low-below : low < junctionsOf s
     low-below = low-on-map net s (beside .network) (beside .one-map) k stands (low-is .is)

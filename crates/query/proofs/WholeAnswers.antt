@@ -153,7 +153,7 @@ module _ {net s depths starts : List ℕ} (prepared : Prepared net s depths star
       -- a marked level is that of a junction of the working set
       level-ancestor : (level : ℕ) → level < suc (depthOf s l) → depthOf s (ancestorOf s l (depthOf s l - level)) ≡ level
       level-ancestor level h =
-          omega (arith, climbed (prepared .beside .labels .parents) (depthOf s l - level) l on-map (omega arith) .depth)
+          omega (arith, climbed (prepared .beside .formed .parents) (depthOf s l - level) l on-map (omega arith) .depth)
 
       marked-real : {p : Weight} → MarkedSum s marks x y 0 (suc (depthOf s l)) p → WalkOf (networkOf net) x y p
       marked-real {p} h = sum-has-walk number-lawful lists-across inside sum
@@ -183,7 +183,7 @@ module _ {net s depths starts : List ℕ} (prepared : Prepared net s depths star
           }
         where
           at : AncestorAt s h l
-          at = ancestor-at (prepared .beside .labels .parents) on-map (of-l inside)
+          at = ancestor-at (prepared .beside .formed .parents) on-map (of-l inside)
 
       pub marked-stands : StandsFor net x y (MarkedSum s marks x y 0 (suc (depthOf s l)))
       marked-stands =
@@ -249,7 +249,7 @@ row-place s v levels k deep h = further-place s (listsBefore s v + (depthOf s v 
 
 module _ {net s depths starts : List ℕ} (prepared : Prepared net s depths starts) {x y near far levels : ℕ} (two : ListsBetween s x y near far levels) where
   fit : ParentsFit s
-  fit = prepared .beside .labels .parents
+  fit = prepared .beside .formed .parents
 
   deep-x : levels ≤ depthOf s x
   deep-x = omega (arith, two .deep, above-shallower s (fit .ends) (two .below-x))
@@ -267,11 +267,11 @@ module _ {net s depths starts : List ℕ} (prepared : Prepared net s depths star
   pub row-fits : RowFits s near far levels
   row-fits =
       record {
-        few-bytes = prepared .beside .labels .few-bytes;
+        few-bytes = prepared .beside .formed .few-bytes;
         near-fits =
-            λ k h. rw (near-place k h) (level-fits (prepared .beside .labels) (below-on-map s (two .below-x)) (omega (arith, deep-x)));
+            λ k h. rw (near-place k h) (level-fits (prepared .beside .formed) (below-on-map s (two .below-x)) (omega (arith, deep-x)));
         far-fits =
-            λ k h. rw (far-place k h) (level-fits (prepared .beside .labels) (below-on-map s (two .below-y)) (omega (arith, deep-y)));
+            λ k h. rw (far-place k h) (level-fits (prepared .beside .formed) (below-on-map s (two .below-y)) (omega (arith, deep-y)));
       }
 
   -- the common ancestors meet every path, and the lists for each are stored

@@ -21,7 +21,7 @@ module _ {net s depths starts heads nexts : List ℕ} {number : ℕ} (accepting 
   net-long zero = omega (arith, ready zero .prepared .beside .network .whole)
 
   pub labels-long : number ≡ 0 → 16 ≤ length s
-  labels-long zero = omega (arith, ready zero .prepared .beside .labels .parents .inside)
+  labels-long zero = omega (arith, ready zero .prepared .beside .formed .parents .inside)
 
   pub first-refused :
       {before after : List ℕ} {end : ℕ} → (number ≡ 0 → ⊥) → length before ≡ 65536 → Put before 0 (refusedLine number) 64 after end →

@@ -157,10 +157,10 @@ module _ {net s depths starts : List ℕ} (prepared : Prepared net s depths star
     reach-across {l} {near} {far} {marks = marks} met branches e not-x not-y hops decides = stands-decides stands (rw e at decides)
       where
         near-at : (level : ℕ) → level ≤ depthOf s l → further s near (depthOf s l - level) ≡ behind s x (suc level)
-        near-at level h = levels-behind (prepared .beside .labels) (branches .x-on-map) (branches .below-x) (met .near-place (branches .below-x)) (depthOf s l - level) level (omega arith)
+        near-at level h = levels-behind (prepared .beside .formed) (branches .x-on-map) (branches .below-x) (met .near-place (branches .below-x)) (depthOf s l - level) level (omega arith)
 
         far-at : (level : ℕ) → level ≤ depthOf s l → further s far (depthOf s l - level) ≡ behind s y (suc level)
-        far-at level h = levels-behind (prepared .beside .labels) (branches .y-on-map) (branches .below-y) (met .far-place (branches .below-y)) (depthOf s l - level) level (omega arith)
+        far-at level h = levels-behind (prepared .beside .formed) (branches .y-on-map) (branches .below-y) (met .far-place (branches .below-y)) (depthOf s l - level) level (omega arith)
 
         marked : StandsFor net x y (MarkedSum s marks x y 0 (suc (depthOf s l)))
         marked =

@@ -47,14 +47,14 @@ module _ {net s : List ℕ} (beside : FilesFit net s) where
   roads-two-way = record { back = two-way }
 
   pub parents-forest : IsForest (parentsOf s)
-  parents-forest = forest (beside .labels .parents)
+  parents-forest = forest (beside .formed .parents)
 
   pub roads-joined : RoadsJoinRelated (networkOf net) (parentsOf s)
-  roads-joined = roads-related (beside .labels .parents) (beside .network) (beside .one-map) (beside .joins)
+  roads-joined = roads-related (beside .formed .parents) (beside .network) (beside .one-map) (beside .joins)
 
   pub lists-ordered : AllOrdered (networkOf net) (parentsOf s) (stored s)
   lists-ordered =
       record {
-        rises = λ above. ordered-rises (stored-ordered (beside .labels) above);
-        unbeaten = λ above. ordered-none-beaten (stored-ordered (beside .labels) above);
+        rises = λ above. ordered-rises (stored-ordered (beside .formed) above);
+        unbeaten = λ above. ordered-none-beaten (stored-ordered (beside .formed) above);
       }

@@ -45,11 +45,11 @@ pub record StartsFilled (labels tables : List ℕ) : Type 0 where
   pub start : (v : ℕ) → v < junctionsOf labels → getD tables (startsFrom + v) 0 ≡ startOf labels v
 
 -- Labels that passed 11 to 17 beside a network that passed 1 to 6
-pub record FilesFit (net s : List ℕ) : Type 0 where
+pub record FilesFit (net labels : List ℕ) : Type 0 where
   pub network : NetworkFits net
-  pub labels : Formed s
-  pub one-map : junctionsOf net ≡ junctionsOf s
-  pub joins : every (roadJoins net s) (roadsOf net) ≡ true
+  pub formed : Formed labels
+  pub one-map : junctionsOf net ≡ junctionsOf labels
+  pub joins : every (roadJoins net labels) (roadsOf net) ≡ true
 
 -- What is worked out once per call: depths and, in the lent table, starts, the roads at each junction, and the numbering
 pub record Tables (net labels depths tables : List ℕ) : Type 0 where

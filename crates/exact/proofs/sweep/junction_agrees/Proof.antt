@@ -19,7 +19,7 @@ use Rattle.exact.proofs.sweep.junction_agrees.Tie as tie
 on-map :
     {net s depths starts heads nexts spots sizes order : List ℕ} {i u : ℕ} →
     SweepInput net s depths starts heads nexts spots sizes order → i < junctionsOf s → u ≡ getD order i 0 → u < junctionsOf s
-on-map input inside u-is = swept-on-map (input .beside .labels) (input .numbered) inside u-is refl
+on-map input inside u-is = swept-on-map (input .beside .formed) (input .numbered) inside u-is refl
 
 number-of-requires : tie.Need-number-of-requires
 number-of-requires c κs = search needs
@@ -30,36 +30,36 @@ add-from c = search needs
 number-of-requires-2 : tie.Need-number-of-requires-2
 number-of-requires-2 c κs =
     let pre = c .before .before .before .pre in
-    omega (arith, on-map (pre .0) (pre .1 .0) (c .number-of .ensures), pre .0 .beside .labels .parents .few-junctions)
+    omega (arith, on-map (pre .0) (pre .1 .0) (c .number-of .ensures), pre .0 .beside .formed .parents .few-junctions)
 
 add-to : tie.Need-add-to
 add-to c =
     let pre = c .before .before .before .before .pre in
     omega (
       arith,
-      block-end (pre .0 .beside .labels) (pre .0 .numbered) (pre .1 .0) (c .before .number-of .ensures) (c .number-of2 .ensures),
-      pre .0 .beside .labels .parents .few-junctions,
+      block-end (pre .0 .beside .formed) (pre .0 .numbered) (pre .1 .0) (c .before .number-of .ensures) (c .number-of2 .ensures),
+      pre .0 .beside .formed .parents .few-junctions,
     )
 
 mul-places : tie.Need-mul-places
 mul-places c =
     let pre = c .before .before .before .before .pre in
-    omega (arith, on-map (pre .0) (pre .1 .0) (c .before .number-of .ensures), pre .0 .beside .labels .parents .few-junctions)
+    omega (arith, on-map (pre .0) (pre .1 .0) (c .before .number-of .ensures), pre .0 .beside .formed .parents .few-junctions)
 
 element-copy-out-places : tie.Need-element-copy-out-places
 element-copy-out-places c =
     let pre = c .before .before .before .before .pre in
-    omega (arith, on-map (pre .0) (pre .1 .0) (c .before .number-of .ensures), pre .0 .beside .labels .parents .few-junctions)
+    omega (arith, on-map (pre .0) (pre .1 .0) (c .before .number-of .ensures), pre .0 .beside .formed .parents .few-junctions)
 
 mul-places-2 : tie.Need-mul-places-2
 mul-places-2 c =
     let pre = c .before .before .before .before .before .pre in
-    omega (arith, on-map (pre .0) (pre .1 .0) (c .before .before .number-of .ensures), pre .0 .beside .labels .parents .few-junctions)
+    omega (arith, on-map (pre .0) (pre .1 .0) (c .before .before .number-of .ensures), pre .0 .beside .formed .parents .few-junctions)
 
 element-write-places : tie.Need-element-write-places
 element-write-places c =
     let pre = c .before .before .before .before .before .pre in
-    omega (arith, on-map (pre .0) (pre .1 .0) (c .before .before .number-of .ensures), pre .0 .beside .labels .parents .few-junctions)
+    omega (arith, on-map (pre .0) (pre .1 .0) (c .before .before .number-of .ensures), pre .0 .beside .formed .parents .few-junctions)
 
 returns : tie.Need-returns
 returns c =
@@ -67,15 +67,15 @@ returns c =
     let input = pre .0 in
     let u-is = c .before .before .before .number-of .ensures in
     let size-is = c .before .before .number-of2 .ensures in (
-      rw (← u-is) (agreed-alone (block-of (input .beside .labels) (input .numbered) (pre .1 .0) u-is size-is) (c .if1 .taken)),
-      λ e. (swept-alone (input .beside .labels) (input .numbered) (pre .1 .0) u-is size-is (pre .1 .1 .0) (input .tables .starts-filled) (c .if1 .taken), pre .1 .1 .1),
+      rw (← u-is) (agreed-alone (block-of (input .beside .formed) (input .numbered) (pre .1 .0) u-is size-is) (c .if1 .taken)),
+      λ e. (swept-alone (input .beside .formed) (input .numbered) (pre .1 .0) u-is size-is (pre .1 .1 .0) (input .tables .starts-filled) (c .if1 .taken), pre .1 .1 .1),
     )
 
 note-above-requires : tie.Need-note-above-requires
 note-above-requires c κs =
     let pre = c .before .before .before .before .before .before .before .pre in
     let input = pre .0 in (
-      input .beside .labels,
+      input .beside .formed,
       (input .tables .depths-filled, (input .tables .starts-filled, (on-map input (pre .1 .0) (c .before .before .before .before .number-of .ensures), simp length-set (pre .1 .1 .0 .places-length)))),
     )
 
@@ -87,8 +87,8 @@ lists-agree-requires c κs =
     let size-is = c .before .before .before .before .before .before .number-of2 .ensures in (
       (input .beside, input .tables .grouped),
       (
-        block-of (input .beside .labels) (input .numbered) (pre .1 .0) u-is size-is,
-        (noted-places (input .beside .labels) (input .numbered) (pre .1 .0) u-is size-is (pre .1 .1 .0) _ (c .before .before .note-above .ensures), pre .1 .1 .1),
+        block-of (input .beside .formed) (input .numbered) (pre .1 .0) u-is size-is,
+        (noted-places (input .beside .formed) (input .numbered) (pre .1 .0) u-is size-is (pre .1 .1 .0) _ (c .before .before .note-above .ensures), pre .1 .1 .1),
       ),
     )
 
@@ -104,10 +104,10 @@ move-on-requires c κs =
     let input = pre .0 in
     let u-is = c .before .before .before .before .before .before .before .before .before .before .number-of .ensures in
     let size-is = c .before .before .before .before .before .before .before .before .before .number-of2 .ensures in (
-      input .beside .labels,
+      input .beside .formed,
       (
-        block-of (input .beside .labels) (input .numbered) (pre .1 .0) u-is size-is,
-        noted-places (input .beside .labels) (input .numbered) (pre .1 .0) u-is size-is (pre .1 .1 .0) _ (c .before .before .before .before .before .note-above .ensures),
+        block-of (input .beside .formed) (input .numbered) (pre .1 .0) u-is size-is,
+        noted-places (input .beside .formed) (input .numbered) (pre .1 .0) u-is size-is (pre .1 .1 .0) _ (c .before .before .before .before .before .note-above .ensures),
       ),
     )
 
@@ -120,7 +120,7 @@ returns-3 c =
     let passed = not-false _ (c .before .before .if2 .left) in (
       rw (← u-is, ← passed) (c .before .before .before .lists-agree .ensures .0),
       λ e. (
-        swept-moved (input .beside .labels) (input .numbered) (pre .1 .0) u-is size-is (pre .1 .1 .0) (input .tables .starts-filled) (c .before .before .before .before .before .before .note-above .ensures) (c .move-on .ensures),
+        swept-moved (input .beside .formed) (input .numbered) (pre .1 .0) u-is size-is (pre .1 .1 .0) (input .tables .starts-filled) (c .before .before .before .before .before .before .note-above .ensures) (c .move-on .ensures),
         c .before .before .before .lists-agree .ensures .1 passed,
       ),
     )

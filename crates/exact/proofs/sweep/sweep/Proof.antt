@@ -34,7 +34,7 @@ loop-holds c =
     let pre = c .before .before .before .pre in
     let input = pre .0 in
     let read = c .u16-at .ensures .is in
-    (omega (arith, read), from-none (input .beside) (input .numbered) read, swept-none (input .beside .labels) (input .numbered) read (pre .1 .0), pre .1 .1)
+    (omega (arith, read), from-none (input .beside) (input .numbered) read, swept-none (input .beside .formed) (input .numbered) read (pre .1 .0), pre .1 .1)
 
 sub-i : tie.Need-sub-i Inv-loop μ-loop
 sub-i c = search needs

@@ -27,7 +27,7 @@ wide-requires c κs = search needs
 mark-itself-requires : tie.Need-mark-itself-requires Inv-loop μ-loop
 mark-itself-requires c κs =
     let start = c .before .before .before .before .before in
-    (omega (arith, depths-small (start .pre .0 .labels .parents) (start .pre .1) (start .args .l) (start .args .l) (start .pre .2) (start .pre .2)), search needs)
+    (omega (arith, depths-small (start .pre .0 .formed .parents) (start .pre .1) (start .args .l) (start .args .l) (start .pre .2) (start .pre .2)), search needs)
 
 roads-of-requires : tie.Need-roads-of-requires Inv-loop μ-loop
 roads-of-requires c κs = search needs
@@ -49,7 +49,7 @@ wide-requires-3 c κs = search needs
 element-write-marks : tie.Need-element-write-marks Inv-loop μ-loop
 element-write-marks c =
     let start = c .before .before .before .before .before .before .before .before .before .before .before .before in
-    omega (arith, mark-inside (start .pre .0 .labels .parents) (start .pre .2) (c .before .road-mark .ensures))
+    omega (arith, mark-inside (start .pre .0 .formed .parents) (start .pre .2) (c .before .road-mark .ensures))
 
 add-k : tie.Need-add-k Inv-loop μ-loop
 add-k c = search needs
@@ -60,12 +60,12 @@ loop-less c = search needs
 loop-again : tie.Need-loop-again Inv-loop μ-loop
 loop-again c =
     let start = c .before .before .before .before .before .before .before .before .before .before .before .before in
-    marking-more (start .pre .0 .labels .parents) (start .pre .2) (c .before .before .before .loop .inv) (c .before .road-mark .ensures) (c .wide3 .ensures)
+    marking-more (start .pre .0 .formed .parents) (start .pre .2) (c .before .before .before .loop .inv) (c .before .road-mark .ensures) (c .wide3 .ensures)
 
 returns : tie.Need-returns Inv-loop μ-loop
 returns c =
     let start = c .before .before .before .before .before .before .before .before .before .before in
-    marking-end (start .pre .0 .labels .parents) (start .pre .2) (c .before .loop .inv) (omega arith)
+    marking-end (start .pre .0 .formed .parents) (start .pre .2) (c .before .loop .inv) (omega arith)
 
 pub mark-hoplinks-spec : {M : Type 1} → statement M
 mark-hoplinks-spec =

@@ -31,7 +31,7 @@ element-copy-out-if1-2 c =
 crossing-depth-requires : tie.Need-crossing-depth-requires
 crossing-depth-requires c κs =
     let start = c .before .before .before .before .before .before .before in
-    (start .pre .0 .labels .parents, start .pre .1, start .pre .2, low-branch (start .pre .0) (start .pre .1) (start .pre .3) (c .before .before .before .before .road-low .ensures) (c .before .before .before .road-high .ensures) (c .if1 .taken))
+    (start .pre .0 .formed .parents, start .pre .1, start .pre .2, low-branch (start .pre .0) (start .pre .1) (start .pre .3) (c .before .before .before .before .road-low .ensures) (c .before .before .before .road-high .ensures) (c .if1 .taken))
 
 returns : tie.Need-returns
 returns c =
@@ -41,7 +41,7 @@ returns c =
 crossing-depth-requires-2 : tie.Need-crossing-depth-requires-2
 crossing-depth-requires-2 c κs =
     let start = c .before .before .before .before .before .before .before in
-    (start .pre .0 .labels .parents, start .pre .1, start .pre .2, high-branch (start .pre .0) (start .pre .1) (start .pre .3) (c .before .before .before .before .road-low .ensures) (c .before .before .before .road-high .ensures) (c .if1 .left))
+    (start .pre .0 .formed .parents, start .pre .1, start .pre .2, high-branch (start .pre .0) (start .pre .1) (start .pre .3) (c .before .before .before .before .road-low .ensures) (c .before .before .before .road-high .ensures) (c .if1 .left))
 
 returns-2 : tie.Need-returns-2
 returns-2 c =

@@ -19,7 +19,7 @@ enum-known-lists c = search needs
 from-list-requires : tie.Need-from-list-requires
 from-list-requires c κs =
     let led = c .before .before .before in
-    list-between-fits (led .before .before .before .before .pre .0 .beside .labels) (leads-list _ _ _ (c .before .lists .given .1) (led .between .ensures))
+    list-between-fits (led .before .before .before .before .pre .0 .beside .formed) (leads-list _ _ _ (c .before .lists .given .1) (led .between .ensures))
 
 enum-known-lists-2 : tie.Need-enum-known-lists-2
 enum-known-lists-2 c = search needs

@@ -22,7 +22,7 @@ enum-known-lists c = search needs
 count-requires : tie.Need-count-requires
 count-requires c κs =
     let led = c .before .before .before in
-    count-stands (list-between-fits (led .before .before .before .before .pre .0 .beside .labels) (leads-list _ _ _ (c .before .lists .given .1) (led .between .ensures)))
+    count-stands (list-between-fits (led .before .before .before .before .pre .0 .beside .formed) (leads-list _ _ _ (c .before .lists .given .1) (led .between .ensures)))
 
 enum-known-lists-2 : tie.Need-enum-known-lists-2
 enum-known-lists-2 c = search needs

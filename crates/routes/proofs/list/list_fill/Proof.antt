@@ -42,7 +42,7 @@ load-requires c κs =
     let led = known .before .before in
     let pre = led .before .before .before .before .before .before .pre in
     let one = leads-list _ _ _ (known .lists .given .1) (led .between .ensures) in
-    (list-between-fits (pre .0 .beside .labels) one .inside, (omega (arith, stored-room (pre .0) one (pre .1 .1 .0), pre .1 .1 .1 .0), omega (arith, stored-room (pre .0) one (pre .1 .1 .0), pre .1 .1 .1 .1)))
+    (list-between-fits (pre .0 .beside .formed) one .inside, (omega (arith, stored-room (pre .0) one (pre .1 .1 .0), pre .1 .1 .1 .0), omega (arith, stored-room (pre .0) one (pre .1 .1 .0), pre .1 .1 .1 .1)))
 
 enum-known-lists-2 : tie.Need-enum-known-lists-2
 enum-known-lists-2 c = search needs

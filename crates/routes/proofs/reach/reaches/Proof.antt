@@ -28,7 +28,7 @@ returns c = (reach-itself (c .if1 .taken), c .before .before .before .pre .1 .1)
 meet-requires : tie.Need-meet-requires
 meet-requires c κs =
     let p = c .before .before .before .pre in
-    ((p .0 .beside .labels, p .0 .depths-filled, p .0 .starts-filled), (on-labels (p .0) (p .1 .0 .0), on-labels (p .0) (p .1 .0 .1)))
+    ((p .0 .beside .formed, p .0 .depths-filled, p .0 .starts-filled), (on-labels (p .0) (p .1 .0 .0), on-labels (p .0) (p .1 .0 .1)))
 
 enum-known-met : tie.Need-enum-known-met
 enum-known-met c = search needs
@@ -47,7 +47,7 @@ list-reaches-requires c κs =
     let e = m .before .before .before in
     let p = e .before .before .before .pre in
     let met = told-at _ _ _ (m .met .given .1) (m .before .before .meet .ensures) in
-    list-fits (p .0 .beside .labels) (on-labels (p .0) (p .1 .0 .1)) (met-start (p .0 .beside .labels) met (e .if1 .left) (c .if2 .taken))
+    list-fits (p .0 .beside .formed) (on-labels (p .0) (p .1 .0 .1)) (met-start (p .0 .beside .formed) met (e .if1 .left) (c .if2 .taken))
 
 returns-3 : tie.Need-returns-3
 returns-3 c =
@@ -55,7 +55,7 @@ returns-3 c =
     let e = m .before .before .before in
     let p = e .before .before .before .pre in
     let met = told-at _ _ _ (m .met .given .1) (m .before .before .meet .ensures) in
-    (reach-down (p .0) (met-start (p .0 .beside .labels) met (e .if1 .left) (c .before .if2 .taken)) (c .list-reaches .ensures), p .1 .1)
+    (reach-down (p .0) (met-start (p .0 .beside .formed) met (e .if1 .left) (c .before .if2 .taken)) (c .list-reaches .ensures), p .1 .1)
 
 list-reaches-requires-2 : tie.Need-list-reaches-requires-2
 list-reaches-requires-2 c κs =
@@ -63,7 +63,7 @@ list-reaches-requires-2 c κs =
     let e = m .before .before .before in
     let p = e .before .before .before .pre in
     let met = told-at _ _ _ (m .met .given .1) (m .before .before .meet .ensures) in
-    list-fits (p .0 .beside .labels) (on-labels (p .0) (p .1 .0 .0)) (met-finish (p .0 .beside .labels) met (e .if1 .left) (c .if3 .taken))
+    list-fits (p .0 .beside .formed) (on-labels (p .0) (p .1 .0 .0)) (met-finish (p .0 .beside .formed) met (e .if1 .left) (c .if3 .taken))
 
 returns-4 : tie.Need-returns-4
 returns-4 c =
@@ -71,7 +71,7 @@ returns-4 c =
     let e = m .before .before .before in
     let p = e .before .before .before .pre in
     let met = told-at _ _ _ (m .met .given .1) (m .before .before .meet .ensures) in
-    (reach-up (p .0) (met-finish (p .0 .beside .labels) met (e .if1 .left) (c .before .if3 .taken)) (c .list-reaches2 .ensures), p .1 .1)
+    (reach-up (p .0) (met-finish (p .0 .beside .formed) met (e .if1 .left) (c .before .if3 .taken)) (c .list-reaches2 .ensures), p .1 .1)
 
 hold-hoplinks-requires : tie.Need-hold-hoplinks-requires
 hold-hoplinks-requires c κs =
@@ -87,7 +87,7 @@ number-of-requires c κs =
     let e = m .before .before .before in
     let p = e .before .before .before .pre in
     let met = told-at _ _ _ (m .met .given .1) (m .before .before .meet .ensures) in
-    omega (arith, met .meets .on-map, p .0 .beside .labels .parents .few-junctions)
+    omega (arith, met .meets .on-map, p .0 .beside .formed .parents .few-junctions)
 
 search-levels-requires : tie.Need-search-levels-requires
 search-levels-requires c κs =
@@ -95,7 +95,7 @@ search-levels-requires c κs =
     let m = not-y .before .before .before in
     let e = m .before .before .before in
     let p = e .before .before .before .pre in
-    let formed = p .0 .beside .labels in
+    let formed = p .0 .beside .formed in
     let met = told-at _ _ _ (m .met .given .1) (m .before .before .meet .ensures) in
     let branches = meets-above (met .meets) (formed .parents) (on-labels (p .0) (p .1 .0 .0)) (on-labels (p .0) (p .1 .0 .1)) (not-y .before .if2 .left) (not-y .if3 .left) in
     let depth-is = c .number-of .ensures ∙ p .0 .depths-filled .depth _ (met .meets .on-map) in
@@ -108,7 +108,7 @@ returns-5 c =
     let e = m .before .before .before in
     let p = e .before .before .before .pre in
     let met = told-at _ _ _ (m .met .given .1) (m .before .before .meet .ensures) in
-    let branches = meets-above (met .meets) (p .0 .beside .labels .parents) (on-labels (p .0) (p .1 .0 .0)) (on-labels (p .0) (p .1 .0 .1)) (not-y .before .if2 .left) (not-y .if3 .left) in
+    let branches = meets-above (met .meets) (p .0 .beside .formed .parents) (on-labels (p .0) (p .1 .0 .0)) (on-labels (p .0) (p .1 .0 .1)) (not-y .before .if2 .left) (not-y .if3 .left) in
     let depth-is = c .before .number-of .ensures ∙ p .0 .depths-filled .depth _ (met .meets .on-map) in
     let hops = c .before .before .before .hold-hoplinks .ensures in
     (reach-across (p .0) met branches depth-is (not-y .before .if2 .left) (not-y .if3 .left) (hops .0) (c .search-levels .ensures), hops .1)

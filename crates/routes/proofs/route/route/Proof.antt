@@ -19,7 +19,7 @@ abbrev μ-loop : tie.MeasureT-loop
 loop-holds : tie.Need-loop-holds Inv-loop μ-loop
 loop-holds c =
     let start = c .before .before in
-    (way-start (start .pre .1 .1 .0 .0) (start .pre .1 .1 .1 .0) (start .pre .1 .1 .1 .1 .0), held-none (start .pre .1 .1 .1 .1 .1) (omega (arith, start .pre .0 .beside .labels .parents .few-junctions)))
+    (way-start (start .pre .1 .1 .0 .0) (start .pre .1 .1 .1 .0) (start .pre .1 .1 .1 .1 .0), held-none (start .pre .1 .1 .1 .1 .1) (omega (arith, start .pre .0 .beside .formed .parents .few-junctions)))
 
 cast-junctions : tie.Need-cast-junctions Inv-loop μ-loop
 cast-junctions c =
