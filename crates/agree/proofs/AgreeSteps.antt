@@ -10,7 +10,7 @@ use native.Mathlib.Omega.{arith}
 use lib.ListN.{length, getD, set, length-set}
 use lib.Seq.{getD-set-same, getD-set-other}
 use Rattle.paths.specs.Weights.{weights, energy, pair, Covered}
-use Rattle.paths.proofs.LabelTest.{ListAgrees}
+use Rattle.paths.specs.LocalTest.{ListAgrees}
 use Rattle.lists.specs.Entries.{Weight}
 use Rattle.refusals.specs.working.Decides.{Decides}
 use Rattle.tables.specs.working.Layout.{firstsFrom}

@@ -9,7 +9,7 @@ use lib.ListN.{getD}
 use Rattle.paths.specs.Weights.{pair}
 use Rattle.paths.specs.Forest.{Parents, Above, Related}
 use Rattle.paths.proofs.Forest.{above-trans, above-irrefl, ancestor-trans, ancestors-related}
-use Rattle.paths.proofs.LabelTest.{arrived, below, above}
+use Rattle.paths.specs.LocalTest.{arrived, below, above}
 use Rattle.lists.specs.Entries.{Weight}
 use Rattle.network.specs.NetworkFile.{junctionsOf, roadTime, roadEnergy, RoadArc}
 use Rattle.network.specs.working.Roads.{otherEnd}

@@ -13,7 +13,7 @@ ghost use mathlib.Core.Path.{_≡_};
 ghost use mathlib.Core.Bool.{true};
 ghost use Prim.Native.Nat.{_≤_};
 ghost use lib.ListN.{length};
-ghost use Rattle.paths.proofs.LabelTest.{ListAgrees};
+ghost use Rattle.paths.specs.LocalTest.{ListAgrees};
 ghost use Rattle.refusals.specs.working.Decides.{Decides};
 ghost use Rattle.network.specs.NetworkFile.{networkOf};
 ghost use Rattle.forest.specs.LabelFile.{parentsOf};

@@ -10,7 +10,7 @@ ghost use mathlib.Core.Path.{_≡_};
 ghost use mathlib.Core.Bool.{true};
 ghost use Prim.Native.Nat.{_+_, _≤_, _<_};
 ghost use lib.ListN.{length, getD};
-ghost use Rattle.paths.proofs.LabelTest.{ListAgrees};
+ghost use Rattle.paths.specs.LocalTest.{ListAgrees};
 ghost use Rattle.network.specs.NetworkFile.{junctionsOf, networkOf};
 ghost use Rattle.network.specs.working.Roads.{Grouped};
 ghost use Rattle.refusals.specs.working.Decides.{Decides};

@@ -1,6 +1,6 @@
 -- The local test of two-way labels: lists stored for each junction and each of its proper ancestors are all right exactly if each
 -- agrees, road by road of its junction, with the lists one road further. One test for each stored list is enough.
--- In this order: what is left after a road; the test of one stored list; the test is exact.
+-- In this order: what is shown of all lists; how two junctions stand; the test is exact.
 use mathlib.Core.Path.{_≡_, refl, sym, ap, _∙_}
 use mathlib.Core.Logic.{_⊎_, inl, inr, ⊎-elim, _↔_}
 use mathlib.Core.List.{List, [], _∷_, List·Memᴰ, List·Memᴰ·head, List·Memᴰ·eq-of-singleton}
@@ -12,38 +12,18 @@ use Rattle.paths.specs.Weights.{weights, Beats, Covered, Rising, one}
 use Rattle.paths.specs.Network.{Network, Walk, stay, go, weight}
 use Rattle.paths.specs.TradeOff.{Skyline, IsTradeOff}
 use Rattle.paths.specs.Forest.{Parents, Above, Ancestor, IsForest, Related, RoadsJoinRelated}
+use Rattle.paths.specs.LocalTest.{Rest, arrived, below, above, MetFrom, ListAgrees}
 use Rattle.paths.proofs.Weights.{weights-lawful, unbeaten-below}
 use Rattle.paths.proofs.Local.{Side, start, finish, Peel, first, last-one, Met, LocallyRight, Labels, AllLocallyRight, AllTradeOffs, local-test-exact}
 use Rattle.paths.proofs.Forest.{above-irrefl, above?, above-trans, ancestor-trans, ancestors-related, ancestor-refl}
 use Rattle.paths.proofs.TwoWay.{TwoWay, tradeOff-back}
 
 module _ {𝓛 : Figures} (𝓝 : Network 𝓛) (parent : Parents) (stored : ℕ → ℕ → List (weights 𝓛 .Figure)) where
-  open Figures (weights 𝓛) using (Figure as Weight, _⊕_, 𝟘)
+  open Figures (weights 𝓛) using (Figure as Weight)
 
-  infixl 60 _⊕_
-  -- q is an entry of the list of w and u, wherever that is stored; where w is u, it is 𝟘 alone
-  pub data Rest (w u : ℕ) (q : Weight) : Type 0 where
-    arrived : w ≡ u → q ≡ 𝟘 → Rest w u q
-    below : Above parent u w → List·Memᴰ q (stored w u) → Rest w u q
-    above : Above parent w u → List·Memᴰ q (stored u w) → Rest w u q
-
-  -- p is a road's weight from v and an entry of what is left to u
-  pub record MetFrom (v u : ℕ) (p : Weight) : Type 0 where
-    pub to : ℕ
-    pub number : ℕ
-    pub road : Weight
-    pub arc : 𝓝 .Arc v to number road
-    pub rest : Weight
-    pub left : Rest to u rest
-    pub adds : road ⊕ rest ≡ p
-
-  -- the test of the stored list of v and its proper ancestor u
-  pub record ListAgrees (v u : ℕ) : Type 0 where
-    pub covers : {w r : ℕ} {a q : Weight} → 𝓝 .Arc v w r a → Rest w u q → Covered 𝓛 (stored v u) (a ⊕ q)
-    pub met : {p : Weight} → List·Memᴰ p (stored v u) → MetFrom v u p
-
+  -- every stored list agrees with those one road further
   pub record AllAgree : Type 0 where
-    pub agrees : {v u : ℕ} → Above parent u v → ListAgrees v u
+    pub agrees : {v u : ℕ} → Above parent u v → ListAgrees 𝓝 parent stored v u
 
   -- every stored list is the trade-off list of its two junctions
   pub record AllRight : Type 0 where

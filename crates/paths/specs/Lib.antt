@@ -6,5 +6,6 @@ pub mod TradeOff
 pub mod Answer
 pub mod Route
 pub mod Forest
+pub mod LocalTest
 pub mod Cut
 pub mod Examples

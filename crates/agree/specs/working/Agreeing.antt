@@ -7,7 +7,7 @@ use Prim.Native.Nat.{ℕ, _≤_, _<_}
 use lib.ListN.{length, getD}
 use Rattle.paths.specs.Weights.{weights, energy, Covered}
 use Rattle.paths.specs.Forest.{Above}
-use Rattle.paths.proofs.LabelTest.{Rest, MetFrom}
+use Rattle.paths.specs.LocalTest.{Rest, MetFrom}
 use Rattle.lists.specs.Entries.{Weight}
 use Rattle.refusals.specs.working.Decides.{Decides}
 use Rattle.network.specs.NetworkFile.{networkOf, junctionsOf, roadsOf, RoadArc}

@@ -5,7 +5,7 @@ use mathlib.Core.List.{List}
 use Prim.Native.Nat.{ℕ, _+_, _-_, _≤_, _<_}
 use lib.ListN.{length, getD}
 use Rattle.paths.specs.Forest.{Above, Ancestor}
-use Rattle.paths.proofs.LabelTest.{ListAgrees}
+use Rattle.paths.specs.LocalTest.{ListAgrees}
 use Rattle.network.specs.NetworkFile.{networkOf, junctionsOf}
 use Rattle.forest.specs.LabelFile.{parentsOf, listEnd}
 use Rattle.forest.specs.Forest.{depthOf}
