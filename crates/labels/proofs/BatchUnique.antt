@@ -11,8 +11,9 @@ use lib.Dec.{leb, eqb}
 use borrow.Author.Tests.{eqb-true}
 use Rattle.refusals.proofs.Order.{unless-passed, and-both}
 use Rattle.query.proofs.AnswersUnique.{SameAnswer, answers-unique}
-use Rattle.labels.specs.Batch.{shapeNumber, TripleAnswered, BatchDone, misshapen, refused, answered}
-use Rattle.labels.proofs.CheckUnique.{check-unique}
+use Rattle.labels.specs.Batch.{shapeNumber, BatchDone, misshapen, not-accepted, answered}
+use Rattle.accepted.specs.Batch.{TripleAnswered}
+use Rattle.accepted.proofs.CheckUnique.{check-unique}
 
 pub record SameBatch (number : ℕ) (after : List ℕ) (number′ : ℕ) (after′ : List ℕ) : Type 0 where
   pub same-number : number ≡ number′
@@ -61,16 +62,16 @@ module _ (net queries : List ℕ) {a b : List ℕ} where
 
 -- No second outcome meets Batch's statement
 pub batch-unique :
-    {net s queries before after after′ : List ℕ} {number number′ : ℕ} →
-    BatchDone net s queries before number after → BatchDone net s queries before number′ after′ → SameBatch number after number′ after′
+    {net labels queries before after after′ : List ℕ} {number number′ : ℕ} →
+    BatchDone net labels queries before number after → BatchDone net labels queries before number′ after′ → SameBatch number after number′ after′
 batch-unique (misshapen n e f) (misshapen m e′ f′) = record { same-number = e ∙ sym e′; same-answers = f ∙ sym f′ }
-batch-unique (misshapen n e f) (refused z c k f′) = absurd (n z)
+batch-unique (misshapen n e f) (not-accepted z c k f′) = absurd (n z)
 batch-unique (misshapen n e f) (answered z c e′ l g) = absurd (n z)
-batch-unique (refused z c k f) (misshapen n e f′) = absurd (n z)
-batch-unique (refused z c k f) (refused y d j f′) = record { same-number = check-unique c d; same-answers = f ∙ sym f′ }
-batch-unique (refused z c k f) (answered y d e l g) = absurd (k (check-unique c d))
+batch-unique (not-accepted z c k f) (misshapen n e f′) = absurd (n z)
+batch-unique (not-accepted z c k f) (not-accepted y d j f′) = record { same-number = check-unique c d; same-answers = f ∙ sym f′ }
+batch-unique (not-accepted z c k f) (answered y d e l g) = absurd (k (check-unique c d))
 batch-unique (answered z c e l g) (misshapen n e′ f) = absurd (n z)
-batch-unique (answered z c e l g) (refused y d k f) = absurd (k (check-unique d c))
+batch-unique (answered z c e l g) (not-accepted y d k f) = absurd (k (check-unique d c))
 batch-unique {net} {queries = queries} {before = before} (answered z c e l g) (answered y d e′ l′ g′) =
     let shape = shape-of queries before z in
     record { same-number = e ∙ sym e′; same-answers = answers-same net queries (l ∙ shape .places) (l′ ∙ shape .places) (shape .whole) g g′ }

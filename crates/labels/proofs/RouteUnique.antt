@@ -1,5 +1,5 @@
 -- Route has one outcome: its number, the pair, the count, and every lent place.
-use mathlib.Core.Path.{_≡_, sym, ap, _∙_}
+use mathlib.Core.Path.{_≡_, refl, sym, ap, _∙_}
 use mathlib.Core.List.{List}
 use Prim.Native.Nat.{ℕ, _≤_, _<_}
 use native.Mathlib.Omega.{arith}
@@ -11,64 +11,81 @@ use Rattle.refusals.specs.Lent.{filled}
 use Rattle.network.specs.NetworkFile.{networkOf}
 use Rattle.query.specs.Answers.{Answers}
 use Rattle.query.proofs.AnswersUnique.{answers-unique}
-use Rattle.labels.specs.Route.{Routed, refused, no-answer, no-room, routed}
-use Rattle.labels.proofs.CheckUnique.{check-unique}
+use Rattle.accepted.specs.Route.{RouteRefused, RouteAnswered, no-answer, no-room, routed}
+use Rattle.accepted.proofs.CheckUnique.{check-unique}
+use Rattle.labels.specs.Route.{Routed, not-accepted, answered}
 
-pub record SameRoute (number time units count : ℕ) (after : List ℕ) (number′ time′ units′ count′ : ℕ) (after′ : List ℕ) : Type 0 where
+pub record SameRoute (number time energy count : ℕ) (after : List ℕ) (number′ time′ energy′ count′ : ℕ) (after′ : List ℕ) : Type 0 where
   pub same-number : number ≡ number′
   pub same-time : time ≡ time′
-  pub same-energy : units ≡ units′
+  pub same-energy : energy ≡ energy′
   pub same-count : count ≡ count′
   pub same-places : after ≡ after′
 
-module _ {net : List ℕ} {x y C time units time′ units′ : ℕ} {route route′ : List ℕ} where
+module _ {net : List ℕ} {s t limit time energy time′ energy′ : ℕ} {route route′ : List ℕ} where
   -- the best pairs of one query have one first route
   routes-same :
-      Answers net x y C 0 time units → Answers net x y C 0 time′ units′ →
-      FirstRoute (networkOf net) x y (pair time units) route → FirstRoute (networkOf net) x y (pair time′ units′) route′ → route ≡ route′
+      Answers net s t limit 0 time energy → Answers net s t limit 0 time′ energy′ →
+      FirstRoute (networkOf net) s t (pair time energy) route → FirstRoute (networkOf net) s t (pair time′ energy′) route′ → route ≡ route′
   routes-same answer answer′ first first′ =
-      let one = answers-unique net x y C answer answer′ in
+      let one = answers-unique net s t limit answer answer′ in
       firstRoute-unique (rw (one .time-is, one .energy-is) at first) first′
 
   -- so there is room for both or for neither
   one-room :
-      {room : ℕ} → Answers net x y C 0 time units → Answers net x y C 0 time′ units′ →
-      FirstRoute (networkOf net) x y (pair time units) route → FirstRoute (networkOf net) x y (pair time′ units′) route′ →
+      {room : ℕ} → Answers net s t limit 0 time energy → Answers net s t limit 0 time′ energy′ →
+      FirstRoute (networkOf net) s t (pair time energy) route → FirstRoute (networkOf net) s t (pair time′ energy′) route′ →
       room < length route → length route′ ≤ room → ⊥
   one-room answer answer′ first first′ short fits = omega (arith, ap length (routes-same answer answer′ first first′))
 
--- No second outcome meets Route's statement
-pub route-unique :
-    {net s : List ℕ} {x y C : ℕ} {before : List ℕ} {number time units count number′ time′ units′ count′ : ℕ} {after after′ : List ℕ} →
-    Routed net s x y C before number time units count after →
-    Routed net s x y C before number′ time′ units′ count′ after′ →
-    SameRoute number time units count after number′ time′ units′ count′ after′
-route-unique (refused c k t u n f) (refused c′ k′ t′ u′ n′ f′) =
-    record { same-number = check-unique c c′; same-time = t ∙ sym t′; same-energy = u ∙ sym u′; same-count = n ∙ sym n′; same-places = f ∙ sym f′ }
-route-unique (refused c k t u n f) (no-answer c′ a k′ n′ f′) = absurd (k (check-unique c c′))
-route-unique (refused c k t u n f) (no-room c′ a r h e t′ u′ n′ f′) = absurd (k (check-unique c c′))
-route-unique (refused c k t u n f) (routed c′ a r h e n′ f′) = absurd (k (check-unique c c′))
-route-unique (no-answer c a k n f) (refused c′ k′ t u n′ f′) = absurd (k′ (check-unique c′ c))
-route-unique {net} {x = x} {y} {C} (no-answer c a k n f) (no-answer c′ a′ k′ n′ f′) =
-    let one = answers-unique net x y C a a′ in
-    record { same-number = one .number-is; same-time = one .time-is; same-energy = one .energy-is; same-count = n ∙ sym n′; same-places = f ∙ sym f′ }
-route-unique {net} {x = x} {y} {C} (no-answer c a k n f) (no-room c′ a′ r h e t u n′ f′) = absurd (k (answers-unique net x y C a a′ .number-is))
-route-unique {net} {x = x} {y} {C} (no-answer c a k n f) (routed c′ a′ r h e n′ f′) = absurd (k (answers-unique net x y C a a′ .number-is))
-route-unique (no-room c a r h e t u n f) (refused c′ k′ t′ u′ n′ f′) = absurd (k′ (check-unique c′ c))
-route-unique {net} {x = x} {y} {C} (no-room c a r h e t u n f) (no-answer c′ a′ k′ n′ f′) = absurd (k′ (answers-unique net x y C a′ a .number-is))
-route-unique (no-room c a r h e t u n f) (no-room c′ a′ r′ h′ e′ t′ u′ n′ f′) =
-    record { same-number = e ∙ sym e′; same-time = t ∙ sym t′; same-energy = u ∙ sym u′; same-count = n ∙ sym n′; same-places = f ∙ sym f′ }
-route-unique (no-room c a r h e t u n f) (routed c′ a′ r′ h′ e′ n′ f′) = absurd (one-room a a′ r r′ h h′)
-route-unique (routed c a r h e n f) (refused c′ k′ t u n′ f′) = absurd (k′ (check-unique c′ c))
-route-unique {net} {x = x} {y} {C} (routed c a r h e n f) (no-answer c′ a′ k′ n′ f′) = absurd (k′ (answers-unique net x y C a′ a .number-is))
-route-unique (routed c a r h e n f) (no-room c′ a′ r′ h′ e′ t′ u′ n′ f′) = absurd (one-room a′ a r′ r h′ h)
-route-unique {net} {x = x} {y} {C} {before} (routed c a r h e n f) (routed c′ a′ r′ h′ e′ n′ f′) =
-    let one = answers-unique net x y C a a′ in
-    let same = routes-same a a′ r r′ in
-    record {
-      same-number = e ∙ sym e′;
-      same-time = one .time-is;
-      same-energy = one .energy-is;
-      same-count = n ∙ ap length same ∙ sym n′;
-      same-places = f ∙ ap (filled before) same ∙ sym f′;
-    }
+module _ {before : List ℕ} {number time energy count number′ time′ energy′ count′ : ℕ} {after after′ : List ℕ} where
+  -- two refusals by one number are the same
+  refusals-same :
+      {by by′ : ℕ} → by ≡ by′ → RouteRefused before number time energy count after by → RouteRefused before number′ time′ energy′ count′ after′ by′ →
+      SameRoute number time energy count after number′ time′ energy′ count′ after′
+  refusals-same e r r′ =
+      record {
+        same-number = r .number-is ∙ e ∙ sym (r′ .number-is);
+        same-time = r .no-time ∙ sym (r′ .no-time);
+        same-energy = r .no-energy ∙ sym (r′ .no-energy);
+        same-count = r .no-count ∙ sym (r′ .no-count);
+        same-places = r .stays ∙ sym (r′ .stays);
+      }
+
+  module _ {net : List ℕ} {s t limit : ℕ} where
+    -- No second answer meets what is stated of an accepted set
+    pub route-answer-unique :
+        RouteAnswered net s t limit before number time energy count after →
+        RouteAnswered net s t limit before number′ time′ energy′ count′ after′ →
+        SameRoute number time energy count after number′ time′ energy′ count′ after′
+    route-answer-unique (no-answer a k n f) (no-answer a′ k′ n′ f′) =
+        let one = answers-unique net s t limit a a′ in
+        record { same-number = one .number-is; same-time = one .time-is; same-energy = one .energy-is; same-count = n ∙ sym n′; same-places = f ∙ sym f′ }
+    route-answer-unique (no-answer a k n f) (no-room a′ first short refused) = absurd (k (answers-unique net s t limit a a′ .number-is))
+    route-answer-unique (no-answer a k n f) (routed a′ first fits e n′ f′) = absurd (k (answers-unique net s t limit a a′ .number-is))
+    route-answer-unique (no-room a first short refused) (no-answer a′ k n f) = absurd (k (answers-unique net s t limit a′ a .number-is))
+    route-answer-unique (no-room a first short refused) (no-room a′ first′ short′ refused′) = refusals-same refl refused refused′
+    route-answer-unique (no-room a first short refused) (routed a′ first′ fits e n f) = absurd (one-room a a′ first first′ short fits)
+    route-answer-unique (routed a first fits e n f) (no-answer a′ k n′ f′) = absurd (k (answers-unique net s t limit a′ a .number-is))
+    route-answer-unique (routed a first fits e n f) (no-room a′ first′ short refused) = absurd (one-room a′ a first′ first short fits)
+    route-answer-unique (routed a first fits e n f) (routed a′ first′ fits′ e′ n′ f′) =
+        let one = answers-unique net s t limit a a′ in
+        let same = routes-same a a′ first first′ in
+        record {
+          same-number = e ∙ sym e′;
+          same-time = one .time-is;
+          same-energy = one .energy-is;
+          same-count = n ∙ ap length same ∙ sym n′;
+          same-places = f ∙ ap (filled before) same ∙ sym f′;
+        }
+
+    -- No second outcome meets Route's statement
+    pub route-unique :
+        {labels : List ℕ} →
+        Routed net labels s t limit before number time energy count after →
+        Routed net labels s t limit before number′ time′ energy′ count′ after′ →
+        SameRoute number time energy count after number′ time′ energy′ count′ after′
+    route-unique (not-accepted c k r) (not-accepted c′ k′ r′) = refusals-same (check-unique c c′) r r′
+    route-unique (not-accepted c k r) (answered c′ a) = absurd (k (check-unique c c′))
+    route-unique (answered c a) (not-accepted c′ k r) = absurd (k (check-unique c′ c))
+    route-unique (answered c a) (answered c′ a′) = route-answer-unique a a′

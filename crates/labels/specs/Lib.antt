@@ -1,10 +1,5 @@
--- What each public call gives, for all inputs: document 01's section "The calls", one file a call. (Join and Limited join:
--- `joins/specs/Answers.antt`; Show: `files/specs/Shown.antt`.)
-pub mod Check
+-- What each public call gives, for all inputs: document 01's section "The calls", one file a call. (Check, and what the calls answer
+-- on an accepted set: `accepted/specs`; Join and Limited join: `joins/specs/Answers.antt`; Show: `files/specs/Shown.antt`.)
 pub mod Batch
 pub mod Route
-pub mod RouteAnswers
 pub mod List
-pub mod ListAnswers
-pub mod Demands
-pub mod working

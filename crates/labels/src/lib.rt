@@ -1,47 +1,26 @@
 // The calls of Bushelvane. Each takes arbitrary bytes and numbers, always ends, and states its number, its values and every lent
 // place for all inputs; a refusal carries zeros and changes nothing lent. What the statements mean is said in specs/, one file a
 // call, in the words of the scope.
-use joins::JoinAnswer;
-use joins::SumAnswer;
-use paths::energy::Energy;
-use paths::seconds::Seconds;
+pub use accepted::ListAnswer;
+pub use accepted::RouteAnswer;
+use accepted::accept::accept;
+use accepted::batch::answer_all;
+use accepted::list::write_list;
+use accepted::route::answer_route;
+pub use joins::JoinAnswer;
+pub use joins::SumAnswer;
 ghost use Prim.Native.Nat.{_+_, _≤_};
 ghost use mathlib.Core.Path.{_≡_};
 ghost use lib.ListN.{length};
 ghost use Rattle.joins.specs.Answers.{Join, LimitedJoin, joinNumberOf, joinCountOf, sumNumberOf, sumTimeOf, sumEnergyOf};
 ghost use Rattle.stored.specs.Stored.{listPlace};
 ghost use Rattle.files.specs.Shown.{Shown};
-ghost use Rattle.labels.specs.Check.{Checked};
+ghost use Rattle.accepted.specs.Check.{Checked};
+ghost use Rattle.accepted.specs.RouteAnswers.{routeNumberOf, routeTimeOf, routeEnergyOf, routeCountOf};
+ghost use Rattle.accepted.specs.ListAnswers.{listNumberOf, listCountOf};
 ghost use Rattle.labels.specs.Batch.{BatchDone};
 ghost use Rattle.labels.specs.Route.{Routed};
-ghost use Rattle.labels.specs.RouteAnswers.{routeNumberOf, routeTimeOf, routeEnergyOf, routeCountOf};
 ghost use Rattle.labels.specs.List.{Listed};
-ghost use Rattle.labels.specs.ListAnswers.{listNumberOf, listCountOf};
-
-pub mod accept;
-pub mod lent;
-pub mod routing;
-pub mod triples;
-pub mod whole;
-
-// The answer of Route: the best pair and the count of its route's junctions, or why there is none.
-pub enum RouteAnswer {
-    Routed(Seconds, Energy, u32),
-    NotAccepted(u32),
-    OffMap,
-    NotConnected,
-    OverLimit,
-    NoRoom,
-}
-
-// The answer of Trade-off list: how many entries it has, or why there is none.
-pub enum ListAnswer {
-    Listed(u32),
-    NotAccepted(u32),
-    OffMap,
-    NotConnected,
-    NoRoom,
-}
 
 // Check: 0 if the network and the labels are accepted, else the number of the first test that fails (1 to 6, 11 to 18).
 pub fn check(net: &[u8], labels: &[u8]) -> u32
@@ -51,7 +30,7 @@ pub fn check(net: &[u8], labels: &[u8]) -> u32
     let mut starts: [u32; 1024] = [0; 1024];
     let mut heads: [u32; 1024] = [0; 1024];
     let mut nexts: [u32; 8192] = [0; 8192];
-    accept::accept(
+    accept(
         net,
         labels,
         &mut depths,
@@ -81,7 +60,7 @@ pub fn batch(net: &[u8], labels: &[u8], queries: &[u32], answers: &mut [u32]) ->
     if answers.len() != length {
         return 32;
     }
-    let number = accept::accept(
+    let number = accept(
         net,
         labels,
         &mut depths,
@@ -92,7 +71,7 @@ pub fn batch(net: &[u8], labels: &[u8], queries: &[u32], answers: &mut [u32]) ->
     if number != 0 {
         return number;
     }
-    triples::answer_all(net, labels, &depths, &starts, queries, length / 3, answers);
+    answer_all(net, labels, &depths, &starts, queries, length / 3, answers);
     0
 }
 
@@ -115,7 +94,7 @@ pub fn route(
     let mut heads: [u32; 1024] = [0; 1024];
     let mut nexts: [u32; 8192] = [0; 8192];
     let mut marks: [u8; 1024] = [0; 1024];
-    let number = accept::accept(
+    let number = accept(
         net,
         labels,
         &mut depths,
@@ -126,7 +105,7 @@ pub fn route(
     if number != 0 {
         return RouteAnswer::NotAccepted(number);
     }
-    routing::answer_route(
+    answer_route(
         net,
         labels,
         &depths,
@@ -159,7 +138,7 @@ pub fn list(
     let mut starts: [u32; 1024] = [0; 1024];
     let mut heads: [u32; 1024] = [0; 1024];
     let mut nexts: [u32; 8192] = [0; 8192];
-    let number = accept::accept(
+    let number = accept(
         net,
         labels,
         &mut depths,
@@ -170,7 +149,7 @@ pub fn list(
     if number != 0 {
         return ListAnswer::NotAccepted(number);
     }
-    whole::write_list(net, labels, &depths, &starts, s, t, times, energies)
+    write_list(net, labels, &depths, &starts, s, t, times, energies)
 }
 
 // Join: the unbeaten sums of two lists, each once, in order, into the first places of two lent slices; how many, or 41, 42, 24.

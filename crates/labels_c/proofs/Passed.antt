@@ -14,17 +14,17 @@ use Rattle.labels.specs.List.{Listed}
 use Rattle.labels_c.specs.Part.{PartShown}
 
 pub route-passed :
-    {net s before after : List ℕ} {x y C number time units count number′ time′ units′ count′ : ℕ} →
-    Routed net s x y C before number time units count after →
-    (number′ ≡ number) × (time′ ≡ time) × (units′ ≡ units) × (count′ ≡ count) →
-    Routed net s x y C before number′ time′ units′ count′ after
+    {net labels before after : List ℕ} {s t limit number time energy count number′ time′ energy′ count′ : ℕ} →
+    Routed net labels s t limit before number time energy count after →
+    (number′ ≡ number) × (time′ ≡ time) × (energy′ ≡ energy) × (count′ ≡ count) →
+    Routed net labels s t limit before number′ time′ energy′ count′ after
 route-passed outcome same = rw (same .0, same .1, same .2, same .3) outcome
 
 pub list-passed :
-    {net s timesBefore energiesBefore timesAfter energiesAfter : List ℕ} {x y number count number′ count′ : ℕ} →
-    Listed net s x y timesBefore energiesBefore number count timesAfter energiesAfter →
+    {net labels timesBefore energiesBefore timesAfter energiesAfter : List ℕ} {s t number count number′ count′ : ℕ} →
+    Listed net labels s t timesBefore energiesBefore number count timesAfter energiesAfter →
     (number′ ≡ number) × (count′ ≡ count) →
-    Listed net s x y timesBefore energiesBefore number′ count′ timesAfter energiesAfter
+    Listed net labels s t timesBefore energiesBefore number′ count′ timesAfter energiesAfter
 list-passed outcome same = rw (same .0, same .1) outcome
 
 pub join-passed :

@@ -1,17 +1,17 @@
 // The calls for C and Rust: functions of `labels` under C names, their statements passed on. An answer that is an enum there is a
 // struct of its number and values here.
-use joins::JoinAnswer;
-use joins::SumAnswer;
+use labels::JoinAnswer;
 use labels::ListAnswer;
 use labels::RouteAnswer;
+use labels::SumAnswer;
 ghost use mathlib.Core.Path.{_≡_};
 ghost use Rattle.joins.specs.Answers.{Join, LimitedJoin, joinNumberOf, joinCountOf, sumNumberOf, sumTimeOf, sumEnergyOf};
-ghost use Rattle.labels.specs.Check.{Checked};
+ghost use Rattle.accepted.specs.Check.{Checked};
 ghost use Rattle.labels.specs.Batch.{BatchDone};
 ghost use Rattle.labels.specs.Route.{Routed};
-ghost use Rattle.labels.specs.RouteAnswers.{routeNumberOf, routeTimeOf, routeEnergyOf, routeCountOf};
+ghost use Rattle.accepted.specs.RouteAnswers.{routeNumberOf, routeTimeOf, routeEnergyOf, routeCountOf};
 ghost use Rattle.labels.specs.List.{Listed};
-ghost use Rattle.labels.specs.ListAnswers.{listNumberOf, listCountOf};
+ghost use Rattle.accepted.specs.ListAnswers.{listNumberOf, listCountOf};
 ghost use Rattle.labels_c.specs.Part.{PartShown};
 
 #[repr(C)]

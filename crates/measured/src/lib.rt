@@ -1,13 +1,12 @@
 // What bench/ measures, exported to Rust. Each function hands its arguments on, so its time is that of the function measured.
+use accepted::accept::accept;
+use accepted::batch::answer_all;
 use files::form::labels_number;
 use joins::JoinAnswer;
 use joins::SumAnswer;
 use joins::join::join;
 use joins::limited::limited_join;
-use labels::accept::accept;
-use labels::triples::answer_all;
 use network::network::net_number;
-use network::versions::version_one;
 use paths::energy::Energy;
 use paths::seconds::Seconds;
 use routes::list::list_count;
@@ -25,8 +24,9 @@ ghost use Rattle.lists.specs.Entries.{Weight};
 ghost use Rattle.joins.specs.Answers.{Join, LimitedJoin};
 ghost use Rattle.query.specs.working.Prepared.{Prepared};
 ghost use Rattle.routes.specs.working.Written.{RouteFound, ListWritten};
-ghost use Rattle.labels.specs.Check.{Checked};
-ghost use Rattle.labels.specs.working.Working.{Accepting, Triples, AnsweredTo};
+ghost use Rattle.accepted.specs.Check.{Checked};
+ghost use Rattle.accepted.specs.working.Accepting.{Accepting};
+ghost use Rattle.accepted.specs.working.Triples.{Triples, AnsweredTo};
 ghost use Rattle.measured.specs.working.FormNumber.{FormNumber};
 
 // What Join answers, for a caller in Rust: the number it refuses by and no count, or 0 and the places filled.

@@ -1,4 +1,5 @@
 -- Lent slices (document 01: "First places are filled and later ones stay, here and wherever a call writes a list.").
+use mathlib.Core.Path.{_≡_}
 use mathlib.Core.List.{List, _++_}
 use Prim.Native.Nat.{ℕ}
 use lib.ListN.{length, drop}
@@ -6,3 +7,11 @@ use lib.ListN.{length, drop}
 -- What a lent slice holds after its first places were filled with `new`
 unfoldable pub filled : List ℕ → List ℕ → List ℕ
 filled old new = new ++ drop (length new) old
+
+module _ (timesBefore energiesBefore : List ℕ) (number count : ℕ) (timesAfter energiesAfter : List ℕ) where
+  -- A call that writes a list, refused by a number: no count beside it, and no lent place has changed
+  pub record ListRefused (by : ℕ) : Type 0 where
+    pub number-is : number ≡ by
+    pub no-count : count ≡ 0
+    pub times-stay : timesAfter ≡ timesBefore
+    pub energies-stay : energiesAfter ≡ energiesBefore

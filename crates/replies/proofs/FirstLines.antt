@@ -5,9 +5,10 @@ use Prim.Native.Nat.{ℕ, _≤_}
 use native.Mathlib.Omega.{arith}
 use lib.ListN.{length}
 use Rattle.bytes.specs.Bytes.{u32At}
-use Rattle.bytes.specs.working.Reads.{ReadU16}
-use Rattle.labels.specs.working.Working.{Accepting}
-use Rattle.labels.proofs.Accepted.{ready-for-queries}
+use Rattle.bytes.specs.working.Reads.{Read16}
+use Rattle.network.specs.NetworkFile.{junctionsOf, roadsOf}
+use Rattle.accepted.specs.working.Accepting.{Accepting}
+use Rattle.accepted.proofs.Accepted.{ready-for-queries}
 use Rattle.replies.specs.Lines.{headingLine, refusedLine}
 use Rattle.replies.specs.working.Buffer.{Put, Ready, Places, FirstLine}
 
@@ -37,7 +38,7 @@ module _ {net s depths starts heads nexts : List ℕ} {number : ℕ} (accepting 
 
   pub first-heading :
       {before after : List ℕ} {end junctions roads entries : ℕ} → number ≡ 0 → length before ≡ 65536 →
-      ReadU16 net 6 junctions → roads ≡ u32At net 8 → entries ≡ u32At s 8 → Put before 0 (headingLine junctions roads entries) 64 after end →
+      Read16 (junctionsOf net) junctions → roads ≡ roadsOf net → entries ≡ u32At s 8 → Put before 0 (headingLine junctions roads entries) 64 after end →
       FirstLine net s depths starts heads nexts after 0 end
   first-heading zero long read e f line =
       record {

@@ -15,7 +15,7 @@ use Rattle.network.specs.NetworkFile.{networkOf, junctionsOf, roadsOf}
 use Rattle.forest.specs.LabelFile.{entriesOf}
 use Rattle.query.specs.Answers.{Answers}
 use Rattle.query.proofs.AnswersUnique.{SameAnswer, answers-unique}
-use Rattle.labels.proofs.CheckUnique.{check-unique}
+use Rattle.accepted.proofs.CheckUnique.{check-unique}
 use Rattle.replies.specs.Lines.{headingLine, refusedLine}
 use Rattle.replies.specs.Reply.{Reply, bad, refused, answered}
 use Rattle.replies.specs.Printed.{Replies, none, more, Printed}

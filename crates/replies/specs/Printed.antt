@@ -6,7 +6,7 @@ use lib.ListN.{length}
 use Rattle.text.specs.Lines.{LineEnds, lineOf}
 use Rattle.network.specs.NetworkFile.{junctionsOf, roadsOf}
 use Rattle.forest.specs.LabelFile.{entriesOf}
-use Rattle.labels.specs.Check.{Checked}
+use Rattle.accepted.specs.Check.{Checked}
 use Rattle.replies.specs.Lines.{headingLine, refusedLine}
 use Rattle.replies.specs.Reply.{Reply}
 

@@ -2,9 +2,10 @@
 use crate::Begun;
 use crate::lines::put_heading;
 use crate::lines::put_refused;
-use bytes::u16_at;
+use accepted::accept::accept;
 use bytes::u32_at;
-use labels::accept::accept;
+use network::header::junctions_of;
+use network::header::roads_of;
 ghost use mathlib.Core.Path.{_≡_};
 ghost use lib.ListN.{length};
 ghost use Rattle.replies.specs.working.Buffer.{FirstLine};
@@ -33,7 +34,7 @@ pub fn begin(
             used: refused,
         };
     }
-    let heading = put_heading(out, u16_at(net, 6), u32_at(net, 8), u32_at(labels, 8));
+    let heading = put_heading(out, junctions_of(net), roads_of(net), u32_at(labels, 8));
     Begun {
         number: 0,
         used: heading,

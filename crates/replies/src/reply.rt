@@ -2,7 +2,7 @@
 use crate::lines::put_bad_line;
 use crate::lines::put_found_line;
 use crate::lines::put_refused_line;
-use labels::triples::code;
+use accepted::batch::number_of_answer;
 use paths::energy::Energy;
 use paths::seconds::Seconds;
 use query::Answer;
@@ -85,7 +85,7 @@ fn reply_query(
 {
     let found = answer(net, labels, depths, starts, s, t, limit);
     let Answer::Found(time, units) = found else {
-        return put_refused_line(out, at, s, t, limit, code(found));
+        return put_refused_line(out, at, s, t, limit, number_of_answer(found));
     };
     put_found(
         net,

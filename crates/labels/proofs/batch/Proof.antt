@@ -1,7 +1,7 @@
--- `labels::batch` is right: each way through it is one law of `BatchWays`.
+-- Each way through a batch is one law of `Outcomes`.
 use borrow.Author.Needs.{needs}
-use Rattle.labels.proofs.Accepted.{ready-for-queries}
-use Rattle.labels.proofs.BatchWays.{done-no-triples, done-too-many, done-other-places, done-refused, done-answered, batch-triples}
+use Rattle.accepted.proofs.Accepted.{ready-for-queries}
+use Rattle.labels.proofs.Outcomes.{done-no-triples, done-too-many, done-other-places, done-not-accepted, done-answered, batch-triples}
 use Rattle.labels.proofs.batch.Statement.{statement}
 use Rattle.labels.proofs.batch.Tie as tie
 
@@ -18,7 +18,7 @@ accept-requires : tie.Need-accept-requires
 accept-requires c κs = search needs
 
 returns-4 : tie.Need-returns-4
-returns-4 c = search (done-refused)
+returns-4 c = search (done-not-accepted)
 
 answer-all-requires : tie.Need-answer-all-requires
 answer-all-requires c κs =

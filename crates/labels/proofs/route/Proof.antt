@@ -1,6 +1,6 @@
--- The check's number refuses; what follows the check is `labels::routing::answer_route`.
-use Rattle.labels.proofs.Accepted.{check-passed, ready-for-queries}
-use Rattle.labels.proofs.RouteWays.{route-refused}
+-- The check's number refuses; what follows the check is `answer_route` of `accepted`.
+use Rattle.accepted.proofs.Accepted.{ready-for-queries}
+use Rattle.labels.proofs.Outcomes.{route-not-accepted, route-answered}
 use borrow.Author.Needs.{needs}
 use Rattle.labels.proofs.route.Statement.{statement}
 use Rattle.labels.proofs.route.Tie as tie
@@ -9,20 +9,20 @@ accept-requires : tie.Need-accept-requires
 accept-requires c κs = search needs
 
 returns : tie.Need-returns
-returns c = search (route-refused)
+returns c = search (route-not-accepted)
 
 answer-route-requires : tie.Need-answer-route-requires
 answer-route-requires c κs =
     let passed = c .before .before .before .before .before .before in
     let accepting = passed .before .accept .ensures in
     let none = passed .if1 .left in
-    (check-passed accepting none, (ready-for-queries accepting none, (accepting .tables none .grouped, search needs)))
+    (ready-for-queries accepting none, (accepting .tables none .grouped, search needs))
 
 same-length : tie.Need-same-length
 same-length c = search needs
 
 returns-2 : tie.Need-returns-2
-returns-2 c = search needs
+returns-2 c = search (route-answered)
 
 pub route-spec : {M : Type 1} → statement M
 route-spec =

@@ -10,7 +10,7 @@ use Rattle.network.specs.NetworkFile.{junctionsOf, roadsOf}
 use Rattle.network.specs.working.Roads.{Grouped}
 use Rattle.forest.specs.LabelFile.{entriesOf}
 use Rattle.query.specs.working.Prepared.{Prepared}
-use Rattle.labels.specs.working.Working.{Accepting}
+use Rattle.accepted.specs.working.Accepting.{Accepting}
 use Rattle.replies.specs.Lines.{_␣_, headingLine, refusedLine}
 use Rattle.replies.specs.Reply.{Reply}
 use Rattle.replies.specs.Printed.{Replies}

@@ -17,14 +17,14 @@ same-length c = search needs
 returns : tie.Need-returns
 returns c = search (first-refused)
 
-u16-at-requires : tie.Need-u16-at-requires
-u16-at-requires c κs = omega (arith, net-long (c .before .before .accept .ensures) (c .before .if1 .left))
+junctions-of-requires : tie.Need-junctions-of-requires
+junctions-of-requires c κs = omega (arith, net-long (c .before .before .accept .ensures) (c .before .if1 .left))
+
+roads-of-requires : tie.Need-roads-of-requires
+roads-of-requires c κs = omega (arith, net-long (c .before .before .before .accept .ensures) (c .before .before .if1 .left))
 
 u32-at-requires : tie.Need-u32-at-requires
-u32-at-requires c κs = omega (arith, net-long (c .before .before .before .accept .ensures) (c .before .before .if1 .left))
-
-u32-at-requires-2 : tie.Need-u32-at-requires-2
-u32-at-requires-2 c κs = omega (arith, labels-long (c .before .before .before .before .accept .ensures) (c .before .before .before .if1 .left))
+u32-at-requires c κs = omega (arith, labels-long (c .before .before .before .before .accept .ensures) (c .before .before .before .if1 .left))
 
 put-heading-requires : tie.Need-put-heading-requires
 put-heading-requires c κs = search needs
@@ -43,9 +43,9 @@ begin-spec =
     put-refused-requires
     same-length
     returns
-    u16-at-requires
+    junctions-of-requires
+    roads-of-requires
     u32-at-requires
-    u32-at-requires-2
     put-heading-requires
     same-length-2
     returns-2)

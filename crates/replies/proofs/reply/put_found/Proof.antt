@@ -1,6 +1,6 @@
 -- `replies::reply::put_found`: the pair of an answer is unbeaten, so it has a first route, which the line holds.
 use native.Mathlib.Omega.{arith}
-use Rattle.labels.proofs.RouteWays.{answered-zero, found-skyline}
+use Rattle.accepted.proofs.FoundPair.{answered-zero, found-skyline}
 use Rattle.replies.proofs.ReplyWays.{route-sized, found-replied}
 use borrow.Author.Needs.{needs}
 use Rattle.replies.proofs.reply.put_found.Statement.{statement}

@@ -3,8 +3,8 @@ use native.Mathlib.Omega.{arith}
 use mathlib.Core.Path.{_≡_}
 use mathlib.Core.Logic.{_⊎_, ⊎-elim}
 use Prim.Native.Nat.{ℕ}
-use Rattle.labels.proofs.BatchSteps.{pair-or-zeros}
-use Rattle.labels.proofs.RouteWays.{found-zero}
+use Rattle.accepted.proofs.BatchSteps.{pair-or-zeros}
+use Rattle.accepted.proofs.FoundPair.{found-zero}
 use Rattle.replies.proofs.ReplyWays.{refusal-replied}
 use borrow.Author.Needs.{needs}
 use Rattle.replies.proofs.reply.reply_query.Statement.{statement}
@@ -16,8 +16,8 @@ answer-requires c κs = search needs
 enum-known-found : tie.Need-enum-known-found
 enum-known-found c = search needs
 
-code-requires : tie.Need-code-requires
-code-requires c κs = search needs
+number-of-answer-requires : tie.Need-number-of-answer-requires
+number-of-answer-requires c κs = search needs
 
 put-refused-line-requires : tie.Need-put-refused-line-requires
 put-refused-line-requires c κs = search needs
@@ -29,7 +29,7 @@ returns : tie.Need-returns
 returns c = (
   ⊎-elim (λ w. absurd (found-key (rw (w .2) at (c .before .before .before .before .before .match .keys2))))
       (λ w.
-      refusal-replied (c .before .before .before .before .before .before .answer .ensures) w (c .before .before .before .code .ensures)
+      refusal-replied (c .before .before .before .before .before .before .answer .ensures) w (c .before .before .before .number-of-answer .ensures)
       (c .before .before .put-refused-line .ensures))
       (pair-or-zeros (c .before .before .before .before .before .before .answer .result)),
   search needs,
@@ -57,7 +57,7 @@ reply-query-spec =
     (tie.spec
     answer-requires
     enum-known-found
-    code-requires
+    number-of-answer-requires
     put-refused-line-requires
     same-length
     returns

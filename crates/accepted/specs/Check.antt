@@ -1,0 +1,16 @@
+-- Check: "the number alone" (document 01, "Refusal numbers and their order").
+use mathlib.Core.Path.{_≡_}
+use mathlib.Core.List.{List}
+use Prim.Native.Nat.{ℕ}
+use Rattle.network.specs.Versions.{versionOne}
+use Rattle.network.specs.NetworkNumber.{netNumber}
+use Rattle.files.specs.LabelForm.{labelsNumber}
+use Rattle.stored.specs.Right.{EveryListRight}
+
+module _ (net labels : List ℕ) (number : ℕ) where
+  -- The network's number, then the labels', then 18: "given exactly if all before it pass and a list differs from the definition"
+  pub data Checked : Type 0 where
+    network-refused : (netNumber versionOne net ≡ 0 → ⊥) → number ≡ netNumber versionOne net → Checked
+    labels-refused : netNumber versionOne net ≡ 0 → (labelsNumber net labels ≡ 0 → ⊥) → number ≡ labelsNumber net labels → Checked
+    list-wrong : netNumber versionOne net ≡ 0 → labelsNumber net labels ≡ 0 → (EveryListRight net labels → ⊥) → number ≡ 18 → Checked
+    accepted : netNumber versionOne net ≡ 0 → labelsNumber net labels ≡ 0 → EveryListRight net labels → number ≡ 0 → Checked

@@ -1,0 +1,9 @@
+-- The check, and what Batch, Route and Trade-off list answer on an accepted set: document 01's section "The calls", one file a call.
+-- `labels/specs` adds what the whole calls give.
+pub mod Check
+pub mod Batch
+pub mod Route
+pub mod RouteAnswers
+pub mod List
+pub mod ListAnswers
+pub mod working

@@ -1,0 +1,37 @@
+-- The number and the values of Route's answer ("For an answer that is an enum, a definition provides this paper's number and
+-- values for each of the enum's cases."; "Every refusal carries zeros beside its number").
+use Prim.Native.Nat.{ℕ}
+use Rattle.accepted.specs.declared.RouteAnswer.{RouteAnswer}
+use Rattle.accepted.specs.declared.RouteAnswer.the-variants as case
+
+abbrev pub routeNumberOf : RouteAnswer → ℕ
+routeNumberOf (case.Routed time energy count) = 0
+routeNumberOf (case.NotAccepted number) = number
+routeNumberOf case.OffMap = 21
+routeNumberOf case.NotConnected = 22
+routeNumberOf case.OverLimit = 23
+routeNumberOf case.NoRoom = 24
+
+abbrev pub routeTimeOf : RouteAnswer → ℕ
+routeTimeOf (case.Routed time energy count) = time .0
+routeTimeOf (case.NotAccepted number) = 0
+routeTimeOf case.OffMap = 0
+routeTimeOf case.NotConnected = 0
+routeTimeOf case.OverLimit = 0
+routeTimeOf case.NoRoom = 0
+
+abbrev pub routeEnergyOf : RouteAnswer → ℕ
+routeEnergyOf (case.Routed time energy count) = energy .0
+routeEnergyOf (case.NotAccepted number) = 0
+routeEnergyOf case.OffMap = 0
+routeEnergyOf case.NotConnected = 0
+routeEnergyOf case.OverLimit = 0
+routeEnergyOf case.NoRoom = 0
+
+abbrev pub routeCountOf : RouteAnswer → ℕ
+routeCountOf (case.Routed time energy count) = count
+routeCountOf (case.NotAccepted number) = 0
+routeCountOf case.OffMap = 0
+routeCountOf case.NotConnected = 0
+routeCountOf case.OverLimit = 0
+routeCountOf case.NoRoom = 0

@@ -1,0 +1,84 @@
+// Trade-off list on an accepted set: the entries are counted before the first is written, so that a refusal changes nothing lent.
+use crate::ListAnswer;
+use network::header::junctions_of;
+use routes::list::list_count;
+use routes::list::list_fill;
+ghost use mathlib.Core.Path.{_≡_};
+ghost use Prim.Native.Nat.{_<_, min};
+ghost use Rattle.network.specs.NetworkFile.{junctionsOf};
+ghost use Rattle.query.specs.working.Prepared.{Prepared};
+ghost use Rattle.accepted.specs.List.{ListAnswered};
+ghost use Rattle.accepted.specs.ListAnswers.{listNumberOf, listCountOf};
+
+// "room is the shorter of the two".
+fn shorter(times: usize, energies: usize) -> usize
+    ensures { λ r. ⌜ r ≡ min times energies ⌝ }
+{
+    if times < energies {
+        return times;
+    }
+    energies
+}
+
+// The list of two junctions of the map.
+fn list_on_map(
+    net: &[u8],
+    labels: &[u8],
+    depths: &[u32; 1024],
+    starts: &[u32; 1024],
+    s: usize,
+    t: usize,
+    times: &mut [u32],
+    energies: &mut [u32],
+) -> ListAnswer
+    requires { ⌜ Prepared (now net) (now labels) (now depths) (now starts) ⌝ }
+    requires { ⌜ (s < junctionsOf (now labels)) × (t < junctionsOf (now labels)) ⌝ }
+    ensures { λ r.
+        ⌜ ListAnswered (now (net .entry)) s t (now (times .entry)) (now (energies .entry))
+        (listNumberOf r) (listCountOf r) (now (times .exit)) (now (energies .exit)) ⌝ }
+{
+    let count = list_count(net, labels, depths, starts, s, t);
+    if count == 0 {
+        return ListAnswer::NotConnected;
+    }
+    if shorter(times.len(), energies.len()) < count as usize {
+        return ListAnswer::NoRoom;
+    }
+    list_fill(net, labels, depths, starts, s, t, count, times, energies);
+    ListAnswer::Listed(count)
+}
+
+// The list of any two numbers: what is no junction is off the map.
+pub fn write_list(
+    net: &[u8],
+    labels: &[u8],
+    depths: &[u32; 1024],
+    starts: &[u32; 1024],
+    s: u32,
+    t: u32,
+    times: &mut [u32],
+    energies: &mut [u32],
+) -> ListAnswer
+    requires { ⌜ Prepared (now net) (now labels) (now depths) (now starts) ⌝ }
+    ensures { λ r.
+        ⌜ ListAnswered (now (net .entry)) s t (now (times .entry)) (now (energies .entry))
+        (listNumberOf r) (listCountOf r) (now (times .exit)) (now (energies .exit)) ⌝ }
+{
+    let junctions = junctions_of(net);
+    if s >= junctions {
+        return ListAnswer::OffMap;
+    }
+    if t >= junctions {
+        return ListAnswer::OffMap;
+    }
+    list_on_map(
+        net,
+        labels,
+        depths,
+        starts,
+        s as usize,
+        t as usize,
+        times,
+        energies,
+    )
+}

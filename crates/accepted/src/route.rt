@@ -1,0 +1,108 @@
+// Route on an accepted set: the answer, then its first route, written once it is known that the lent places are enough.
+use crate::RouteAnswer;
+use crate::filling::fill_first;
+use paths::energy::Energy;
+use paths::seconds::Seconds;
+use query::Answer;
+use query::limited::answer;
+use routes::route::route;
+ghost use mathlib.Core.Path.{_≡_};
+ghost use Prim.Native.Nat.{_<_};
+ghost use lib.ListN.{length};
+ghost use Rattle.paths.specs.Weights.{pair};
+ghost use Rattle.paths.specs.TradeOff.{Skyline};
+ghost use Rattle.network.specs.NetworkFile.{networkOf, junctionsOf};
+ghost use Rattle.network.specs.working.Roads.{Grouped};
+ghost use Rattle.query.specs.working.Prepared.{Prepared};
+ghost use Rattle.accepted.specs.Route.{RouteAnswered};
+ghost use Rattle.accepted.specs.RouteAnswers.{routeNumberOf, routeTimeOf, routeEnergyOf, routeCountOf};
+ghost use Rattle.accepted.specs.working.RoutePut.{RoutePut};
+
+// The first route of an unbeaten pair, put into the first of the lent places if they are enough.
+fn put_route(
+    net: &[u8],
+    labels: &[u8],
+    depths: &[u32; 1024],
+    starts: &[u32; 1024],
+    heads: &[u32; 1024],
+    nexts: &[u32; 8192],
+    s: usize,
+    t: usize,
+    time: Seconds,
+    energy: Energy,
+    junctions: &mut [u32],
+    marks: &mut [u8; 1024],
+) -> RouteAnswer
+    requires { ⌜ Prepared (now net) (now labels) (now depths) (now starts) ⌝ }
+    requires { ⌜ Grouped (now net) (now heads) (now nexts) ⌝ }
+    requires { ⌜ (s < junctionsOf (now net)) × (t < junctionsOf (now net)) ⌝ }
+    requires { ⌜ Skyline (networkOf (now net)) s t (pair (time .0) (energy .0)) ⌝ }
+    requires { ⌜ length (now marks) ≡ 1024 ⌝ }
+    ensures { λ r.
+        ⌜ RoutePut (now (net .entry)) s t (time .0) (energy .0) (now (junctions .entry))
+        (routeNumberOf r) (routeTimeOf r) (routeEnergyOf r) (routeCountOf r) (now (junctions .exit)) ⌝ }
+{
+    let mut places: [u32; 1024] = [0; 1024];
+    let count = route(
+        net,
+        labels,
+        depths,
+        starts,
+        heads,
+        nexts,
+        s,
+        t,
+        time,
+        energy,
+        &mut places,
+        marks,
+    );
+    if count > junctions.len() {
+        return RouteAnswer::NoRoom;
+    }
+    fill_first(&places, count, junctions);
+    RouteAnswer::Routed(time, energy, count as u32)
+}
+
+// The answer to s, t and the limit with its route.
+pub fn answer_route(
+    net: &[u8],
+    labels: &[u8],
+    depths: &[u32; 1024],
+    starts: &[u32; 1024],
+    heads: &[u32; 1024],
+    nexts: &[u32; 8192],
+    s: u32,
+    t: u32,
+    limit: u32,
+    junctions: &mut [u32],
+    marks: &mut [u8; 1024],
+) -> RouteAnswer
+    requires { ⌜ Prepared (now net) (now labels) (now depths) (now starts) ⌝ }
+    requires { ⌜ Grouped (now net) (now heads) (now nexts) ⌝ }
+    requires { ⌜ length (now marks) ≡ 1024 ⌝ }
+    ensures { λ r.
+        ⌜ RouteAnswered (now (net .entry)) s t limit (now (junctions .entry))
+        (routeNumberOf r) (routeTimeOf r) (routeEnergyOf r) (routeCountOf r) (now (junctions .exit)) ⌝ }
+{
+    let found = answer(net, labels, depths, starts, s, t, limit);
+    match found {
+        Answer::Found(time, energy) => put_route(
+            net,
+            labels,
+            depths,
+            starts,
+            heads,
+            nexts,
+            s as usize,
+            t as usize,
+            time,
+            energy,
+            junctions,
+            marks,
+        ),
+        Answer::OffMap => RouteAnswer::OffMap,
+        Answer::NotConnected => RouteAnswer::NotConnected,
+        Answer::OverLimit => RouteAnswer::OverLimit,
+    }
+}

@@ -1,0 +1,2 @@
+-- The three demands of document 01.
+pub mod Demands

@@ -1,2 +1,0 @@
--- What the working functions behind the calls leave.
-pub mod Working
