@@ -22,16 +22,18 @@ pub accepted-zero : {net labels : List ℕ} → Accepted net labels → Checked 
 accepted-zero a = accepted (a .network-passes) (a .form-passes) (a .every-list-right) refl
 
 -- the check's number 0, as a number
-pub check-passed : {net labels depths starts heads nexts : List ℕ} {number : ℕ} → Accepting net labels number depths starts heads nexts → number ≡ 0 → Checked net labels 0
+pub check-passed : {net labels depths tables : List ℕ} {number : ℕ} → Accepting net labels number depths tables → number ≡ 0 → Checked net labels 0
 check-passed accepting none = rw none at (accepting .checked)
 
 -- what queries stand on
-pub ready-for-queries : {net labels depths starts heads nexts : List ℕ} {number : ℕ} → Accepting net labels number depths starts heads nexts → number ≡ 0 → Prepared net labels depths starts
+pub ready-for-queries : {net labels depths tables : List ℕ} {number : ℕ} → Accepting net labels number depths tables → number ≡ 0 → Prepared net labels depths tables
 ready-for-queries {net} {labels} accepting none =
     let a = zero-accepts (accepting .checked) none in
     record {
       beside = files-fit labels (network-fits versionOne net (a .network-passes)) (a .form-passes);
       every-list-right = a .every-list-right;
-      depths-filled = accepting .tables none .depths-filled;
-      starts-filled = accepting .tables none .starts-filled;
+      depths-filled = accepting .filled none .depths-filled;
+      starts-filled = accepting .filled none .starts-filled;
+      grouped = accepting .filled none .grouped;
+      numbered = accepting .filled none .numbered;
     }

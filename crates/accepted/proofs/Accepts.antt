@@ -3,75 +3,84 @@ use mathlib.Core.Path.{_≡_, refl, sym, _∙_}
 use mathlib.Core.Bool.{Bool, true, false}
 use mathlib.Core.List.{List}
 use Prim.Native.Nat.{ℕ}
+use native.Mathlib.Omega.{arith}
 use lib.ListN.{length}
+use Rattle.tables.specs.working.Layout.{firstsFrom, orderFrom, tablePlaces, StaysBelow}
+use Rattle.tables.proofs.Stays.{stays-lower}
 use Rattle.refusals.specs.working.Decides.{Decides}
 use Rattle.network.specs.Versions.{versionOne}
 use Rattle.network.specs.NetworkNumber.{netNumber}
 use Rattle.network.specs.working.Fits.{NetworkFits}
 use Rattle.network.specs.working.Roads.{Grouped}
+use Rattle.network.specs.declared.versions.Served.{Served}
 use Rattle.network.proofs.Accepted.{network-fits}
-use Rattle.stored.specs.working.Formed.{Tables, FilesFit}
+use Rattle.network.proofs.GroupedRoads.{grouped-stays}
+use Rattle.forest.specs.working.Fits.{DepthsFilled}
+use Rattle.preorder.specs.working.Numbered.{Numbered}
+use Rattle.stored.specs.working.Formed.{StartsFilled, Tables, FilesFit}
+use Rattle.stored.proofs.Places.{starts-stay}
 use Rattle.files.specs.working.FormRead.{LabelsNumbered}
 use Rattle.stored.specs.Right.{EveryListRight}
 use Rattle.accepted.specs.Check.{Checked, network-refused, labels-refused, list-wrong, accepted}
 use Rattle.accepted.specs.working.Accepting.{Accepting}
 
+-- the check serves version 1
+pub serves-one : (net : List ℕ) {number : ℕ} {serves : Served} → serves ≡ versionOne → number ≡ netNumber serves net → number ≡ netNumber versionOne net
+serves-one net one is = rw one at is
+
 -- a network that passed has no number
 pub network-passes : {net : List ℕ} {number : ℕ} → number ≡ netNumber versionOne net → number ≡ 0 → NetworkFits net
 network-passes {net} is none = network-fits versionOne net (sym is ∙ none)
 
--- labels whose form passed stand beside their network
-pub form-passes : {net labels depths starts : List ℕ} {r : ℕ} → LabelsNumbered net labels depths starts r → r ≡ 0 → FilesFit net labels
-form-passes form none = form .fit none
+-- starts, then roads, then the numbering: what is filled later leaves what was filled before
+pub all-filled :
+    {net labels depths started grouped tables : List ℕ} → FilesFit net labels → DepthsFilled labels depths → StartsFilled labels started →
+    Grouped net grouped → StaysBelow firstsFrom started grouped → Numbered labels tables → StaysBelow orderFrom grouped tables →
+    Tables net labels depths tables
+all-filled fit depths-filled starts roads starts-kept numbered roads-kept =
+    record {
+      depths-filled = depths-filled;
+      starts-filled = starts-stay few (stays-lower (omega arith) roads-kept) (starts-stay few starts-kept starts);
+      grouped = grouped-stays (fit .network) roads-kept roads;
+      numbered = numbered;
+    }
+  where
+    few = fit .formed .parents .few-junctions
 
-module _ {net labels depths starts heads nexts : List ℕ} where
+module _ {net labels depths tables : List ℕ} where
   pub network-refuses :
-      {r : ℕ} → r ≡ netNumber versionOne net → (r ≡ 0 → ⊥) →
-      length depths ≡ 1024 → length starts ≡ 1024 → length heads ≡ 1024 → length nexts ≡ 8192 →
-      Accepting net labels r depths starts heads nexts
-  network-refuses is some d a h x =
-      record {
-        checked = network-refused (λ z. some (is ∙ z)) is;
-        tables = λ z. absurd (some z);
-        depths-length = d;
-        starts-length = a;
-        heads-length = h;
-        nexts-length = x;
-      }
+      {r : ℕ} → r ≡ netNumber versionOne net → (r ≡ 0 → ⊥) → length depths ≡ 1024 → length tables ≡ tablePlaces → Accepting net labels r depths tables
+  network-refuses is some d t =
+      record { checked = network-refused (λ z. some (is ∙ z)) is; filled = λ z. absurd (some z); depths-length = d; tables-length = t }
 
   pub labels-refuse :
-      {r : ℕ} (number : ℕ) → number ≡ netNumber versionOne net → number ≡ 0 → LabelsNumbered net labels depths starts r → (r ≡ 0 → ⊥) →
-      length heads ≡ 1024 → length nexts ≡ 8192 → Accepting net labels r depths starts heads nexts
-  labels-refuse number is none form some h x =
+      {r : ℕ} (number : ℕ) → number ≡ netNumber versionOne net → number ≡ 0 → LabelsNumbered net labels depths tables r → (r ≡ 0 → ⊥) →
+      Accepting net labels r depths tables
+  labels-refuse number is none form some =
       record {
         checked = labels-refused (sym is ∙ none) (λ z. some (form .read .number ∙ z)) (form .read .number);
-        tables = λ z. absurd (some z);
+        filled = λ z. absurd (some z);
         depths-length = form .read .depth-places;
-        starts-length = form .read .start-places;
-        heads-length = h;
-        nexts-length = x;
+        tables-length = form .read .table-places;
       }
 
-  pub tables-filled : {r : ℕ} → LabelsNumbered net labels depths starts r → r ≡ 0 → Grouped net heads nexts → Tables net labels depths starts heads nexts
-  tables-filled form none grouped =
-      record { depths-filled = form .read .depths-filled none; starts-filled = form .read .starts-filled none; grouped = grouped }
+module _
+    {net labels depths started tables : List ℕ}
+    (number r : ℕ)
+    (is : number ≡ netNumber versionOne net)
+    (none : number ≡ 0)
+    (form : LabelsNumbered net labels depths started r)
+    (passes : r ≡ 0)
+    (filled : Tables net labels depths tables)
+  where
+  accepting : {answer : ℕ} → Checked net labels answer → Accepting net labels answer depths tables
+  accepting checked =
+      record { checked = checked; filled = λ z. filled; depths-length = form .read .depth-places; tables-length = filled .grouped .places }
 
-  module _ (number r : ℕ) (is : number ≡ netNumber versionOne net) (none : number ≡ 0) (form : LabelsNumbered net labels depths starts r) (passes : r ≡ 0) (grouped : Grouped net heads nexts) where
-    accepting : {answer : ℕ} → Checked net labels answer → Accepting net labels answer depths starts heads nexts
-    accepting checked =
-        record {
-          checked = checked;
-          tables = λ z. tables-filled form passes grouped;
-          depths-length = form .read .depth-places;
-          starts-length = form .read .start-places;
-          heads-length = grouped .head-places;
-          nexts-length = grouped .next-places;
-        }
+  pub all-right : {b : Bool} → Decides (EveryListRight net labels) b → b ≡ true → Accepting net labels 0 depths tables
+  all-right decides yes-right =
+      accepting (accepted (sym is ∙ none) (sym (form .read .number) ∙ passes) (decides .holds yes-right) refl)
 
-    pub all-right : {b : Bool} → Decides (EveryListRight net labels) b → b ≡ true → Accepting net labels 0 depths starts heads nexts
-    all-right decides yes-right =
-        accepting (accepted (sym is ∙ none) (sym (form .read .number) ∙ passes) (decides .holds yes-right) refl)
-
-    pub some-wrong : {b : Bool} → Decides (EveryListRight net labels) b → b ≡ false → Accepting net labels 18 depths starts heads nexts
-    some-wrong decides wrong =
-        accepting (list-wrong (sym is ∙ none) (sym (form .read .number) ∙ passes) (decides .fails wrong) refl)
+  pub some-wrong : {b : Bool} → Decides (EveryListRight net labels) b → b ≡ false → Accepting net labels 18 depths tables
+  some-wrong decides wrong =
+      accepting (list-wrong (sym is ∙ none) (sym (form .read .number) ∙ passes) (decides .fails wrong) refl)

@@ -41,12 +41,12 @@ pub fn answer_all(
     net: &[u8],
     labels: &[u8],
     depths: &[u32; 1024],
-    starts: &[u32; 1024],
+    tables: &[u32; 13312],
     queries: &[u32],
     count: usize,
     answers: &mut [u32],
 )
-    requires { ⌜ Prepared (now net) (now labels) (now depths) (now starts) ⌝ }
+    requires { ⌜ Prepared (now net) (now labels) (now depths) (now tables) ⌝ }
     requires { ⌜ Triples (now queries) (now answers) count ⌝ }
     ensures { λ _. ⌜ AnsweredTo (now (net .entry)) (now (queries .entry)) (now (answers .entry)) (now (answers .exit)) count ⌝ }
 {
@@ -57,7 +57,7 @@ pub fn answer_all(
             net,
             labels,
             depths,
-            starts,
+            tables,
             queries[at],
             queries[at + 1],
             queries[at + 2],

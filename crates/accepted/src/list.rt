@@ -25,26 +25,26 @@ fn list_on_map(
     net: &[u8],
     labels: &[u8],
     depths: &[u32; 1024],
-    starts: &[u32; 1024],
+    tables: &[u32; 13312],
     s: usize,
     t: usize,
     times: &mut [u32],
     energies: &mut [u32],
 ) -> ListAnswer
-    requires { ⌜ Prepared (now net) (now labels) (now depths) (now starts) ⌝ }
+    requires { ⌜ Prepared (now net) (now labels) (now depths) (now tables) ⌝ }
     requires { ⌜ (s < junctionsOf (now labels)) × (t < junctionsOf (now labels)) ⌝ }
     ensures { λ r.
         ⌜ ListAnswered (now (net .entry)) s t (now (times .entry)) (now (energies .entry))
         (listNumberOf r) (listCountOf r) (now (times .exit)) (now (energies .exit)) ⌝ }
 {
-    let count = list_count(net, labels, depths, starts, s, t);
+    let count = list_count(net, labels, depths, tables, s, t);
     if count == 0 {
         return ListAnswer::NotConnected;
     }
     if shorter(times.len(), energies.len()) < count as usize {
         return ListAnswer::NoRoom;
     }
-    list_fill(net, labels, depths, starts, s, t, count, times, energies);
+    list_fill(net, labels, depths, tables, s, t, count, times, energies);
     ListAnswer::Listed(count)
 }
 
@@ -53,13 +53,13 @@ pub fn write_list(
     net: &[u8],
     labels: &[u8],
     depths: &[u32; 1024],
-    starts: &[u32; 1024],
+    tables: &[u32; 13312],
     s: u32,
     t: u32,
     times: &mut [u32],
     energies: &mut [u32],
 ) -> ListAnswer
-    requires { ⌜ Prepared (now net) (now labels) (now depths) (now starts) ⌝ }
+    requires { ⌜ Prepared (now net) (now labels) (now depths) (now tables) ⌝ }
     ensures { λ r.
         ⌜ ListAnswered (now (net .entry)) s t (now (times .entry)) (now (energies .entry))
         (listNumberOf r) (listCountOf r) (now (times .exit)) (now (energies .exit)) ⌝ }
@@ -75,7 +75,7 @@ pub fn write_list(
         net,
         labels,
         depths,
-        starts,
+        tables,
         s as usize,
         t as usize,
         times,

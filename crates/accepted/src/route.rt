@@ -12,7 +12,6 @@ ghost use lib.ListN.{length};
 ghost use Rattle.paths.specs.Weights.{pair};
 ghost use Rattle.paths.specs.TradeOff.{Skyline};
 ghost use Rattle.network.specs.NetworkFile.{networkOf, junctionsOf};
-ghost use Rattle.network.specs.working.Roads.{Grouped};
 ghost use Rattle.query.specs.working.Prepared.{Prepared};
 ghost use Rattle.accepted.specs.Route.{RouteAnswered};
 ghost use Rattle.accepted.specs.RouteAnswers.{routeNumberOf, routeTimeOf, routeEnergyOf, routeCountOf};
@@ -23,9 +22,7 @@ fn put_route(
     net: &[u8],
     labels: &[u8],
     depths: &[u32; 1024],
-    starts: &[u32; 1024],
-    heads: &[u32; 1024],
-    nexts: &[u32; 8192],
+    tables: &[u32; 13312],
     s: usize,
     t: usize,
     time: Seconds,
@@ -33,8 +30,7 @@ fn put_route(
     junctions: &mut [u32],
     marks: &mut [u8; 1024],
 ) -> RouteAnswer
-    requires { ⌜ Prepared (now net) (now labels) (now depths) (now starts) ⌝ }
-    requires { ⌜ Grouped (now net) (now heads) (now nexts) ⌝ }
+    requires { ⌜ Prepared (now net) (now labels) (now depths) (now tables) ⌝ }
     requires { ⌜ (s < junctionsOf (now net)) × (t < junctionsOf (now net)) ⌝ }
     requires { ⌜ Skyline (networkOf (now net)) s t (pair (time .0) (energy .0)) ⌝ }
     requires { ⌜ length (now marks) ≡ 1024 ⌝ }
@@ -47,9 +43,7 @@ fn put_route(
         net,
         labels,
         depths,
-        starts,
-        heads,
-        nexts,
+        tables,
         s,
         t,
         time,
@@ -69,31 +63,26 @@ pub fn answer_route(
     net: &[u8],
     labels: &[u8],
     depths: &[u32; 1024],
-    starts: &[u32; 1024],
-    heads: &[u32; 1024],
-    nexts: &[u32; 8192],
+    tables: &[u32; 13312],
     s: u32,
     t: u32,
     limit: u32,
     junctions: &mut [u32],
     marks: &mut [u8; 1024],
 ) -> RouteAnswer
-    requires { ⌜ Prepared (now net) (now labels) (now depths) (now starts) ⌝ }
-    requires { ⌜ Grouped (now net) (now heads) (now nexts) ⌝ }
+    requires { ⌜ Prepared (now net) (now labels) (now depths) (now tables) ⌝ }
     requires { ⌜ length (now marks) ≡ 1024 ⌝ }
     ensures { λ r.
         ⌜ RouteAnswered (now (net .entry)) s t limit (now (junctions .entry))
         (routeNumberOf r) (routeTimeOf r) (routeEnergyOf r) (routeCountOf r) (now (junctions .exit)) ⌝ }
 {
-    let found = answer(net, labels, depths, starts, s, t, limit);
+    let found = answer(net, labels, depths, tables, s, t, limit);
     match found {
         Answer::Found(time, energy) => put_route(
             net,
             labels,
             depths,
-            starts,
-            heads,
-            nexts,
+            tables,
             s as usize,
             t as usize,
             time,

@@ -14,7 +14,6 @@ use Rattle.paths.specs.Forest.{Above, Ancestor, Related, WorkingSet, itself, cr
 use Rattle.refusals.proofs.Order.{every-holds}
 use Rattle.bytes.specs.working.Reads.{ReadU16}
 use Rattle.network.specs.NetworkFile.{junctionsOf, roadsOf, roadTime, roadEnergy, RoadArc, networkOf}
-use Rattle.network.specs.working.RoadsRead.{FilledBelow}
 use Rattle.network.proofs.Arcs.{two-way}
 use Rattle.forest.specs.LabelFile.{parentsOf}
 use Rattle.forest.specs.Forest.{depthOf, ancestorOf, isAncestor, roadJoins}
@@ -23,7 +22,7 @@ use Rattle.stored.specs.working.Formed.{FilesFit}
 use Rattle.forest.proofs.Chains.{climbed}
 use Rattle.forest.proofs.Forest.{above-shallower, above-at, is-ancestor-sound, is-ancestor-complete, low-on-map, high-on-map, joined-related}
 use Rattle.hoplinks.specs.working.Meeting.{HopMarks}
-use Rattle.hoplinks.specs.working.Marking.{OneMark, OnBranch, CrossingDepth, crosses, passes-by, RoadMark}
+use Rattle.hoplinks.specs.working.Marking.{Cleared, OneMark, OnBranch, CrossingDepth, crosses, passes-by, RoadMark}
 use Rattle.hoplinks.proofs.Branches.{no-climb, no-deeper, shallower-ancestor, strictly-above, stays-above}
 
 -- ---- A road between two junctions
@@ -155,8 +154,17 @@ pub record Marking (net s : List ℕ) (l : ℕ) (marks : List ℕ) (k : ℕ) : T
   pub right : (j : ℕ) → j ≤ depthOf s l → getD marks j 0 ≡ 1 → WorkingSet (networkOf net) (parentsOf s) l (ancestorOf s l (depthOf s l - j))
   pub all : {h end i : ℕ} {w : weights energy .Figure} → i < k → Above (parentsOf s) h l → Ancestor (parentsOf s) l end → RoadArc net h end i w → getD marks (depthOf s h) 0 ≡ 1
 
+-- one place more is cleared
+pub cleared-more : {marks : List ℕ} {k : ℕ} → Cleared marks k → k < 1024 → Cleared (set marks k 0) (k + 1)
+cleared-more {marks} {k} cleared h =
+    record { places = simp length-set (cleared .places); each = λ j below. pick j below (ℕ-discrete j k) }
+  where
+    pick : (j : ℕ) → j < k + 1 → Dec (j ≡ k) → getD (set marks k 0) j 0 ≡ 0
+    pick j below (yes e) = rw e (getD-set-same marks k 0 0 (omega (arith, cleared .places)))
+    pick j below (no apart) = getD-set-other marks k j 0 0 apart ∙ cleared .each j (omega arith)
+
 -- the places below the last are clear, and the last is marked
-pub one-mark : {marks : List ℕ} {own k : ℕ} → FilledBelow marks 0 k → own ≤ k → own < 1024 → OneMark (set marks own 1) own
+pub one-mark : {marks : List ℕ} {own k : ℕ} → Cleared marks k → own ≤ k → own < 1024 → OneMark (set marks own 1) own
 one-mark {marks} {own} {k} cleared all inside =
     record {
       places = simp length-set (cleared .places);

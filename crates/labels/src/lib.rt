@@ -27,16 +27,12 @@ pub fn check(net: &[u8], labels: &[u8]) -> u32
     ensures { λ r. ⌜ Checked (now (net .entry)) (now (labels .entry)) r ⌝ }
 {
     let mut depths: [u32; 1024] = [0; 1024];
-    let mut starts: [u32; 1024] = [0; 1024];
-    let mut heads: [u32; 1024] = [0; 1024];
-    let mut nexts: [u32; 8192] = [0; 8192];
+    let mut tables: [u32; 13312] = [0; 13312];
     accept(
         net,
         labels,
         &mut depths,
-        &mut starts,
-        &mut heads,
-        &mut nexts,
+        &mut tables,
     )
 }
 
@@ -47,9 +43,7 @@ pub fn batch(net: &[u8], labels: &[u8], queries: &[u32], answers: &mut [u32]) ->
         ⌜ BatchDone (now (net .entry)) (now (labels .entry)) (now (queries .entry)) (now (answers .entry)) r (now (answers .exit)) ⌝ }
 {
     let mut depths: [u32; 1024] = [0; 1024];
-    let mut starts: [u32; 1024] = [0; 1024];
-    let mut heads: [u32; 1024] = [0; 1024];
-    let mut nexts: [u32; 8192] = [0; 8192];
+    let mut tables: [u32; 13312] = [0; 13312];
     let length = queries.len();
     if length % 3 != 0 {
         return 31;
@@ -64,14 +58,12 @@ pub fn batch(net: &[u8], labels: &[u8], queries: &[u32], answers: &mut [u32]) ->
         net,
         labels,
         &mut depths,
-        &mut starts,
-        &mut heads,
-        &mut nexts,
+        &mut tables,
     );
     if number != 0 {
         return number;
     }
-    answer_all(net, labels, &depths, &starts, queries, length / 3, answers);
+    answer_all(net, labels, &depths, &tables, queries, length / 3, answers);
     0
 }
 
@@ -90,17 +82,13 @@ pub fn route(
         (routeNumberOf r) (routeTimeOf r) (routeEnergyOf r) (routeCountOf r) (now (junctions .exit)) ⌝ }
 {
     let mut depths: [u32; 1024] = [0; 1024];
-    let mut starts: [u32; 1024] = [0; 1024];
-    let mut heads: [u32; 1024] = [0; 1024];
-    let mut nexts: [u32; 8192] = [0; 8192];
+    let mut tables: [u32; 13312] = [0; 13312];
     let mut marks: [u8; 1024] = [0; 1024];
     let number = accept(
         net,
         labels,
         &mut depths,
-        &mut starts,
-        &mut heads,
-        &mut nexts,
+        &mut tables,
     );
     if number != 0 {
         return RouteAnswer::NotAccepted(number);
@@ -109,9 +97,7 @@ pub fn route(
         net,
         labels,
         &depths,
-        &starts,
-        &heads,
-        &nexts,
+        &tables,
         s,
         t,
         limit,
@@ -135,21 +121,17 @@ pub fn list(
         (listNumberOf r) (listCountOf r) (now (times .exit)) (now (energies .exit)) ⌝ }
 {
     let mut depths: [u32; 1024] = [0; 1024];
-    let mut starts: [u32; 1024] = [0; 1024];
-    let mut heads: [u32; 1024] = [0; 1024];
-    let mut nexts: [u32; 8192] = [0; 8192];
+    let mut tables: [u32; 13312] = [0; 13312];
     let number = accept(
         net,
         labels,
         &mut depths,
-        &mut starts,
-        &mut heads,
-        &mut nexts,
+        &mut tables,
     );
     if number != 0 {
         return ListAnswer::NotAccepted(number);
     }
-    write_list(net, labels, &depths, &starts, s, t, times, energies)
+    write_list(net, labels, &depths, &tables, s, t, times, energies)
 }
 
 // Join: the unbeaten sums of two lists, each once, in order, into the first places of two lent slices; how many, or 41, 42, 24.

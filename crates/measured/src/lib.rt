@@ -19,7 +19,6 @@ ghost use lib.ListN.{length};
 ghost use Rattle.paths.specs.Weights.{pair};
 ghost use Rattle.paths.specs.TradeOff.{Skyline, IsTradeOff};
 ghost use Rattle.network.specs.NetworkFile.{junctionsOf, networkOf};
-ghost use Rattle.network.specs.working.Roads.{Grouped};
 ghost use Rattle.lists.specs.Entries.{Weight};
 ghost use Rattle.joins.specs.Answers.{Join, LimitedJoin};
 ghost use Rattle.query.specs.working.Prepared.{Prepared};
@@ -62,8 +61,8 @@ pub extern "C" fn measured_form(net: &[u8], labels: &[u8]) -> u32
         return number;
     }
     let mut depths: [u32; 1024] = [0; 1024];
-    let mut starts: [u32; 1024] = [0; 1024];
-    labels_number(net, labels, &mut depths, &mut starts)
+    let mut tables: [u32; 13312] = [0; 13312];
+    labels_number(net, labels, &mut depths, &mut tables)
 }
 
 // Join, for all inputs.
@@ -167,14 +166,12 @@ pub extern "C" fn measured_accept(
     net: &[u8],
     labels: &[u8],
     depths: &mut [u32; 1024],
-    starts: &mut [u32; 1024],
-    heads: &mut [u32; 1024],
-    nexts: &mut [u32; 8192],
+    tables: &mut [u32; 13312],
 ) -> u32
-    requires { ⌜ (length (now depths) ≡ 1024) × (length (now starts) ≡ 1024) × (length (now heads) ≡ 1024) × (length (now nexts) ≡ 8192) ⌝ }
-    ensures { λ r. ⌜ Accepting (now (net .entry)) (now (labels .entry)) r (now (depths .exit)) (now (starts .exit)) (now (heads .exit)) (now (nexts .exit)) ⌝ }
+    requires { ⌜ (length (now depths) ≡ 1024) × (length (now tables) ≡ tablePlaces) ⌝ }
+    ensures { λ r. ⌜ Accepting (now (net .entry)) (now (labels .entry)) r (now (depths .exit)) (now (tables .exit)) ⌝ }
 {
-    accept(net, labels, depths, starts, heads, nexts)
+    accept(net, labels, depths, tables)
 }
 
 // A batch after the check. The answers are as many places as the queries, three to each of `count` triples.
@@ -183,16 +180,16 @@ pub extern "C" fn measured_answers(
     net: &[u8],
     labels: &[u8],
     depths: &[u32; 1024],
-    starts: &[u32; 1024],
+    tables: &[u32; 13312],
     queries: &[u32],
     count: usize,
     answers: &mut [u32],
 )
-    requires { ⌜ Prepared (now net) (now labels) (now depths) (now starts) ⌝ }
+    requires { ⌜ Prepared (now net) (now labels) (now depths) (now tables) ⌝ }
     requires { ⌜ Triples (now queries) (now answers) count ⌝ }
     ensures { λ _. ⌜ AnsweredTo (now (net .entry)) (now (queries .entry)) (now (answers .entry)) (now (answers .exit)) count ⌝ }
 {
-    answer_all(net, labels, depths, starts, queries, count, answers);
+    answer_all(net, labels, depths, tables, queries, count, answers);
 }
 
 // The first route of an unbeaten pair, which bench/ takes from a batch.
@@ -201,9 +198,7 @@ pub extern "C" fn measured_route(
     net: &[u8],
     labels: &[u8],
     depths: &[u32; 1024],
-    starts: &[u32; 1024],
-    heads: &[u32; 1024],
-    nexts: &[u32; 8192],
+    tables: &[u32; 13312],
     s: usize,
     t: usize,
     time: u32,
@@ -211,8 +206,7 @@ pub extern "C" fn measured_route(
     junctions: &mut [u32; 1024],
     marks: &mut [u8; 1024],
 ) -> usize
-    requires { ⌜ Prepared (now net) (now labels) (now depths) (now starts) ⌝ }
-    requires { ⌜ Grouped (now net) (now heads) (now nexts) ⌝ }
+    requires { ⌜ Prepared (now net) (now labels) (now depths) (now tables) ⌝ }
     requires { ⌜ (s < junctionsOf (now net)) × (t < junctionsOf (now net)) ⌝ }
     requires { ⌜ Skyline (networkOf (now net)) s t (pair time units) ⌝ }
     requires { ⌜ (length (now junctions) ≡ 1024) × (length (now marks) ≡ 1024) ⌝ }
@@ -222,9 +216,7 @@ pub extern "C" fn measured_route(
         net,
         labels,
         depths,
-        starts,
-        heads,
-        nexts,
+        tables,
         s,
         t,
         Seconds(time),
@@ -240,15 +232,15 @@ pub extern "C" fn measured_list_count(
     net: &[u8],
     labels: &[u8],
     depths: &[u32; 1024],
-    starts: &[u32; 1024],
+    tables: &[u32; 13312],
     s: usize,
     t: usize,
 ) -> u32
-    requires { ⌜ Prepared (now net) (now labels) (now depths) (now starts) ⌝ }
+    requires { ⌜ Prepared (now net) (now labels) (now depths) (now tables) ⌝ }
     requires { ⌜ (s < junctionsOf (now labels)) × (t < junctionsOf (now labels)) ⌝ }
     ensures { λ r. ⌜ ((l : List Weight) → IsTradeOff (networkOf (now (net .entry))) s t l → r ≡ length l) ⌝ }
 {
-    list_count(net, labels, depths, starts, s, t)
+    list_count(net, labels, depths, tables, s, t)
 }
 
 // The list itself, whose count comes from the function above, into slices that have room for it.
@@ -257,18 +249,18 @@ pub extern "C" fn measured_list_fill(
     net: &[u8],
     labels: &[u8],
     depths: &[u32; 1024],
-    starts: &[u32; 1024],
+    tables: &[u32; 13312],
     s: usize,
     t: usize,
     count: u32,
     times: &mut [u32],
     energies: &mut [u32],
 )
-    requires { ⌜ Prepared (now net) (now labels) (now depths) (now starts) ⌝ }
+    requires { ⌜ Prepared (now net) (now labels) (now depths) (now tables) ⌝ }
     requires { ⌜ (s < junctionsOf (now labels)) × (t < junctionsOf (now labels)) ⌝ }
     requires { ⌜ ((l : List Weight) → IsTradeOff (networkOf (now net)) s t l → count ≡ length l) ⌝ }
     requires { ⌜ (count ≤ length (now times)) × (count ≤ length (now energies)) ⌝ }
     ensures { λ _. ⌜ ListWritten (now (net .entry)) s t (now (times .entry)) (now (energies .entry)) count (now (times .exit)) (now (energies .exit)) ⌝ }
 {
-    list_fill(net, labels, depths, starts, s, t, count, times, energies);
+    list_fill(net, labels, depths, tables, s, t, count, times, energies);
 }

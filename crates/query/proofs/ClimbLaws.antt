@@ -7,6 +7,7 @@ use native.Mathlib.Decide.{ℕ-discrete}
 use native.Mathlib.Omega.{arith}
 use lib.ListN.{length, getD}
 use Rattle.paths.specs.Forest.{Above, Ancestor, Common}
+use Rattle.tables.specs.working.Layout.{startsFrom}
 use Rattle.network.specs.NetworkFile.{junctionsOf}
 use Rattle.forest.specs.LabelFile.{parentAt, parentsOf}
 use Rattle.forest.specs.Forest.{depthOf, ancestorOf}
@@ -27,8 +28,8 @@ use Rattle.query.proofs.MarkedSums.{level-next, level-fits, level-place
 
 -- it starts at the junction and its first list
 pub climb-starts :
-    {s starts : List ℕ} {v : ℕ} {climb : Climb} → StartsFilled s starts → v < junctionsOf s → climb .from ≡ v → climb .up ≡ v →
-    climb .at ≡ getD starts v 0 → Climbs s v (depthOf s v - 0) climb
+    {s tables : List ℕ} {v : ℕ} {climb : Climb} → StartsFilled s tables → v < junctionsOf s → climb .from ≡ v → climb .up ≡ v →
+    climb .at ≡ getD tables (startsFrom + v) 0 → Climbs s v (depthOf s v - 0) climb
 climb-starts {s} {v = v} filled on-map of up at =
     let none : depthOf s v - (depthOf s v - 0) ≡ 0 = omega arith in
     record {

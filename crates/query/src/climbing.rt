@@ -2,7 +2,8 @@
 use crate::Between;
 use forest::parents::parent_at;
 use stored::place::Place;
-use stored::place::number_of;
+use tables::STARTS;
+use tables::entry_at;
 ghost use mathlib.Core.Path.{_≡_};
 ghost use Prim.Native.Nat.{_+_, _-_, _*_, _≤_, _<_};
 ghost use lib.ListN.{length};
@@ -37,15 +38,15 @@ fn step(labels: &[u8], below: Climb) -> Climb
 }
 
 // The climb of v, so many steps up.
-fn climb_of(labels: &[u8], starts: &[u32; 1024], v: usize, steps: u32) -> Climb
-    requires { ⌜ Formed (now labels) × StartsFilled (now labels) (now starts) ⌝ }
+fn climb_of(labels: &[u8], tables: &[u32; 13312], v: usize, steps: u32) -> Climb
+    requires { ⌜ Formed (now labels) × StartsFilled (now labels) (now tables) ⌝ }
     requires { ⌜ (v < junctionsOf (now labels)) × (steps ≤ depthOf (now labels) v) ⌝ }
     ensures { λ r. ⌜ Climbs (now (labels .entry)) v (depthOf (now (labels .entry)) v - steps) r ⌝ }
 {
     let mut here = Climb {
         from: v,
         up: v,
-        at: number_of(starts, v),
+        at: entry_at(tables, STARTS + v),
     };
     let mut done: u32 = 0;
     while done < steps {
@@ -82,32 +83,32 @@ fn meet(labels: &[u8], depth: u32, near: Climb, far: Climb) -> Between
 pub fn between(
     labels: &[u8],
     depths: &[u32; 1024],
-    starts: &[u32; 1024],
+    tables: &[u32; 13312],
     x: usize,
     y: usize,
 ) -> Between
-    requires { ⌜ Formed (now labels) × DepthsFilled (now labels) (now depths) × StartsFilled (now labels) (now starts) ⌝ }
+    requires { ⌜ Formed (now labels) × DepthsFilled (now labels) (now depths) × StartsFilled (now labels) (now tables) ⌝ }
     requires { ⌜ (x < junctionsOf (now labels)) × (y < junctionsOf (now labels)) × (x ≡ y → ⊥) ⌝ }
     ensures { λ r. ⌜ Leads (now (labels .entry)) x y r ⌝ }
 {
     let depth_x = depths[x];
     let depth_y = depths[y];
     if depth_y < depth_x {
-        let below = climb_of(labels, starts, x, depth_x - depth_y - 1);
+        let below = climb_of(labels, tables, x, depth_x - depth_y - 1);
         let near = step(labels, below);
         if near.up == y {
             return Between::List(below.at);
         }
-        return meet(labels, depth_y, near, climb_of(labels, starts, y, 0));
+        return meet(labels, depth_y, near, climb_of(labels, tables, y, 0));
     }
     if depth_x < depth_y {
-        let below = climb_of(labels, starts, y, depth_y - depth_x - 1);
+        let below = climb_of(labels, tables, y, depth_y - depth_x - 1);
         let far = step(labels, below);
         if far.up == x {
             return Between::List(below.at);
         }
-        return meet(labels, depth_x, climb_of(labels, starts, x, 0), far);
+        return meet(labels, depth_x, climb_of(labels, tables, x, 0), far);
     }
-    let near = climb_of(labels, starts, x, 0);
-    meet(labels, depth_x, near, climb_of(labels, starts, y, 0))
+    let near = climb_of(labels, tables, x, 0);
+    meet(labels, depth_x, near, climb_of(labels, tables, y, 0))
 }

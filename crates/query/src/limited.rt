@@ -66,19 +66,19 @@ pub fn best(
     net: &[u8],
     labels: &[u8],
     depths: &[u32; 1024],
-    starts: &[u32; 1024],
+    tables: &[u32; 13312],
     x: usize,
     y: usize,
     limit: Energy,
 ) -> Answer
-    requires { ⌜ Prepared (now net) (now labels) (now depths) (now starts) ⌝ }
+    requires { ⌜ Prepared (now net) (now labels) (now depths) (now tables) ⌝ }
     requires { ⌜ (x < junctionsOf (now labels)) × (y < junctionsOf (now labels)) ⌝ }
     ensures { λ r. ⌜ Answers (now (net .entry)) x y (limit .0) (numberOf r) (timeOf r) (energyOf r) ⌝ }
 {
     if x == y {
         return Answer::Found(Seconds(0), Energy(0));
     }
-    let lists = between(labels, depths, starts, x, y);
+    let lists = between(labels, depths, tables, x, y);
     match lists {
         Between::Nothing => Answer::NotConnected,
         Between::List(at) => from_list(labels, at, limit),
@@ -91,12 +91,12 @@ pub fn answer(
     net: &[u8],
     labels: &[u8],
     depths: &[u32; 1024],
-    starts: &[u32; 1024],
+    tables: &[u32; 13312],
     s: u32,
     t: u32,
     limit: u32,
 ) -> Answer
-    requires { ⌜ Prepared (now net) (now labels) (now depths) (now starts) ⌝ }
+    requires { ⌜ Prepared (now net) (now labels) (now depths) (now tables) ⌝ }
     ensures { λ r. ⌜ Answers (now (net .entry)) s t limit (numberOf r) (timeOf r) (energyOf r) ⌝ }
 {
     let junctions = u16_at(net, 6);
@@ -110,7 +110,7 @@ pub fn answer(
         net,
         labels,
         depths,
-        starts,
+        tables,
         s as usize,
         t as usize,
         Energy(limit),

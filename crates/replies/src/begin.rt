@@ -7,6 +7,7 @@ use bytes::u32_at;
 use network::header::junctions_of;
 use network::header::roads_of;
 ghost use mathlib.Core.Path.{_≡_};
+ghost use Rattle.tables.specs.working.Layout.{tablePlaces};
 ghost use lib.ListN.{length};
 ghost use Rattle.replies.specs.working.Buffer.{FirstLine};
 
@@ -15,18 +16,16 @@ pub fn begin(
     net: &[u8],
     labels: &[u8],
     depths: &mut [u32; 1024],
-    starts: &mut [u32; 1024],
-    heads: &mut [u32; 1024],
-    nexts: &mut [u32; 8192],
+    tables: &mut [u32; 13312],
     out: &mut [u8],
 ) -> Begun
-    requires { ⌜ (length (now depths) ≡ 1024) × (length (now starts) ≡ 1024) × (length (now heads) ≡ 1024) × (length (now nexts) ≡ 8192) ⌝ }
+    requires { ⌜ (length (now depths) ≡ 1024) × (length (now tables) ≡ tablePlaces) ⌝ }
     requires { ⌜ length (now out) ≡ 65536 ⌝ }
     ensures { λ r.
-        ⌜ FirstLine (now (net .entry)) (now (labels .entry)) (now (depths .exit)) (now (starts .exit)) (now (heads .exit)) (now (nexts .exit))
+        ⌜ FirstLine (now (net .entry)) (now (labels .entry)) (now (depths .exit)) (now (tables .exit))
         (now (out .exit)) (r .number) (r .used) ⌝ }
 {
-    let number = accept(net, labels, depths, starts, heads, nexts);
+    let number = accept(net, labels, depths, tables);
     if number != 0 {
         let refused = put_refused(out, number);
         return Begun {

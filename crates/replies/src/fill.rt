@@ -12,16 +12,14 @@ pub fn fill(
     net: &[u8],
     labels: &[u8],
     depths: &[u32; 1024],
-    starts: &[u32; 1024],
-    heads: &[u32; 1024],
-    nexts: &[u32; 8192],
+    tables: &[u32; 13312],
     input: &[u8],
     from: usize,
     out: &mut [u8],
     junctions: &mut [u32; 1024],
     marks: &mut [u8; 1024],
 ) -> Filled
-    requires { ⌜ Ready (now net) (now labels) (now depths) (now starts) (now heads) (now nexts) ⌝ }
+    requires { ⌜ Ready (now net) (now labels) (now depths) (now tables) ⌝ }
     requires { ⌜ Places (now junctions) (now marks) ⌝ }
     requires { ⌜ (length (now input) ≤ 65536) × (length (now out) ≡ 65536) ⌝ }
     ensures { λ r. ⌜ FilledTo (now (net .entry)) (now (input .entry)) from (now (out .exit)) (r .next) (r .used) ⌝ }
@@ -41,9 +39,7 @@ pub fn fill(
             net,
             labels,
             depths,
-            starts,
-            heads,
-            nexts,
+            tables,
             input,
             next,
             end,

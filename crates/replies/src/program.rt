@@ -3,6 +3,7 @@ use crate::begin::begin;
 use crate::fill::fill;
 ghost use mathlib.Core.Path.{_≡_};
 ghost use Prim.Native.Nat.{_≤_};
+ghost use Rattle.tables.specs.working.Layout.{tablePlaces};
 ghost use lib.ListN.{length};
 ghost use Rattle.io.specs.Counts.{Counts};
 ghost use Rattle.replies.specs.working.Buffer.{Ready, Places};
@@ -30,16 +31,14 @@ fn print_replies(
     net: &[u8],
     labels: &[u8],
     depths: &[u32; 1024],
-    starts: &[u32; 1024],
-    heads: &[u32; 1024],
-    nexts: &[u32; 8192],
+    tables: &[u32; 13312],
     input: &[u8],
     output: i32,
     out: &mut [u8],
     junctions: &mut [u32; 1024],
     marks: &mut [u8; 1024],
 )
-    requires { ⌜ Ready (now net) (now labels) (now depths) (now starts) (now heads) (now nexts) ⌝ }
+    requires { ⌜ Ready (now net) (now labels) (now depths) (now tables) ⌝ }
     requires { ⌜ Places (now junctions) (now marks) ⌝ }
     requires { ⌜ (length (now input) ≤ 65536) × (length (now out) ≡ 65536) ⌝ }
 {
@@ -49,9 +48,7 @@ fn print_replies(
             net,
             labels,
             depths,
-            starts,
-            heads,
-            nexts,
+            tables,
             input,
             next,
             out,
@@ -71,17 +68,15 @@ fn answer_input(
     input: i32,
     output: i32,
     depths: &mut [u32; 1024],
-    starts: &mut [u32; 1024],
-    heads: &mut [u32; 1024],
-    nexts: &mut [u32; 8192],
+    tables: &mut [u32; 13312],
 )
-    requires { ⌜ (length (now depths) ≡ 1024) × (length (now starts) ≡ 1024) × (length (now heads) ≡ 1024) × (length (now nexts) ≡ 8192) ⌝ }
+    requires { ⌜ (length (now depths) ≡ 1024) × (length (now tables) ≡ tablePlaces) ⌝ }
 {
     let mut junctions: [u32; 1024] = [0; 1024];
     let mut marks: [u8; 1024] = [0; 1024];
     let mut text = io::large_buffer();
     let mut out = io::large_buffer();
-    let begun = begin(net, labels, depths, starts, heads, nexts, &mut out);
+    let begun = begin(net, labels, depths, tables, &mut out);
     let used = begun.used;
     io::write_all(output, &out[0..used]);
     if begun.number != 0 {
@@ -92,9 +87,7 @@ fn answer_input(
         net,
         labels,
         depths,
-        starts,
-        heads,
-        nexts,
+        tables,
         &text[0..count],
         output,
         &mut out,
@@ -106,9 +99,7 @@ fn answer_input(
 // Answers the query lines of `input` on the two files.
 pub fn run(net_path: &[u8], labels_path: &[u8], input: i32, output: i32) {
     let mut depths: [u32; 1024] = [0; 1024];
-    let mut starts: [u32; 1024] = [0; 1024];
-    let mut heads: [u32; 1024] = [0; 1024];
-    let mut nexts: [u32; 8192] = [0; 8192];
+    let mut tables: [u32; 13312] = [0; 13312];
     let mut net = io::large_buffer();
     let mut list_bytes = io::large_buffer();
     let net_length = read_file(net_path, &mut net);
@@ -119,8 +110,6 @@ pub fn run(net_path: &[u8], labels_path: &[u8], input: i32, output: i32) {
         input,
         output,
         &mut depths,
-        &mut starts,
-        &mut heads,
-        &mut nexts,
+        &mut tables,
     );
 }

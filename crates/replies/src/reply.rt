@@ -22,9 +22,7 @@ fn put_found(
     net: &[u8],
     labels: &[u8],
     depths: &[u32; 1024],
-    starts: &[u32; 1024],
-    heads: &[u32; 1024],
-    nexts: &[u32; 8192],
+    tables: &[u32; 13312],
     s: u32,
     t: u32,
     limit: u32,
@@ -35,7 +33,7 @@ fn put_found(
     junctions: &mut [u32; 1024],
     marks: &mut [u8; 1024],
 ) -> usize
-    requires { ⌜ Ready (now net) (now labels) (now depths) (now starts) (now heads) (now nexts) ⌝ }
+    requires { ⌜ Ready (now net) (now labels) (now depths) (now tables) ⌝ }
     requires { ⌜ Answers (now net) s t limit 0 (time .0) (units .0) ⌝ }
     requires { ⌜ (length (now junctions) ≡ 1024) × (length (now marks) ≡ 1024) ⌝ }
     requires { ⌜ at + 11344 ≤ length (now out) ⌝ }
@@ -48,9 +46,7 @@ fn put_found(
         net,
         labels,
         depths,
-        starts,
-        heads,
-        nexts,
+        tables,
         from,
         to,
         time,
@@ -66,9 +62,7 @@ fn reply_query(
     net: &[u8],
     labels: &[u8],
     depths: &[u32; 1024],
-    starts: &[u32; 1024],
-    heads: &[u32; 1024],
-    nexts: &[u32; 8192],
+    tables: &[u32; 13312],
     s: u32,
     t: u32,
     limit: u32,
@@ -77,13 +71,13 @@ fn reply_query(
     junctions: &mut [u32; 1024],
     marks: &mut [u8; 1024],
 ) -> usize
-    requires { ⌜ Ready (now net) (now labels) (now depths) (now starts) (now heads) (now nexts) ⌝ }
+    requires { ⌜ Ready (now net) (now labels) (now depths) (now tables) ⌝ }
     requires { ⌜ Places (now junctions) (now marks) ⌝ }
     requires { ⌜ at + 11344 ≤ length (now out) ⌝ }
     ensures { λ r. ⌜ QueryReplied (now (net .entry)) s t limit (now (out .entry)) at (now (out .exit)) r ⌝ }
     ensures { λ _. ⌜ Places (now (junctions .exit)) (now (marks .exit)) ⌝ }
 {
-    let found = answer(net, labels, depths, starts, s, t, limit);
+    let found = answer(net, labels, depths, tables, s, t, limit);
     let Answer::Found(time, units) = found else {
         return put_refused_line(out, at, s, t, limit, number_of_answer(found));
     };
@@ -91,9 +85,7 @@ fn reply_query(
         net,
         labels,
         depths,
-        starts,
-        heads,
-        nexts,
+        tables,
         s,
         t,
         limit,
@@ -111,9 +103,7 @@ pub fn reply(
     net: &[u8],
     labels: &[u8],
     depths: &[u32; 1024],
-    starts: &[u32; 1024],
-    heads: &[u32; 1024],
-    nexts: &[u32; 8192],
+    tables: &[u32; 13312],
     input: &[u8],
     start: usize,
     end: usize,
@@ -122,7 +112,7 @@ pub fn reply(
     junctions: &mut [u32; 1024],
     marks: &mut [u8; 1024],
 ) -> usize
-    requires { ⌜ Ready (now net) (now labels) (now depths) (now starts) (now heads) (now nexts) ⌝ }
+    requires { ⌜ Ready (now net) (now labels) (now depths) (now tables) ⌝ }
     requires { ⌜ Places (now junctions) (now marks) ⌝ }
     requires { ⌜ (start ≤ end) × (end ≤ length (now input)) ⌝ }
     requires { ⌜ at + 11344 ≤ length (now out) ⌝ }
@@ -137,9 +127,7 @@ pub fn reply(
         net,
         labels,
         depths,
-        starts,
-        heads,
-        nexts,
+        tables,
         s,
         t,
         limit,

@@ -1,7 +1,8 @@
 // The way up from a junction, with its lists in step: each list for an ancestor stands behind the one for the ancestor below.
 use forest::parents::parent_at;
 use stored::place::Place;
-use stored::place::number_of;
+use tables::STARTS;
+use tables::entry_at;
 ghost use mathlib.Core.Path.{_≡_};
 ghost use Prim.Native.Nat.{_+_, _-_, _*_, _≤_, _<_};
 ghost use lib.ListN.{length};
@@ -55,13 +56,13 @@ fn deeper_by(depth: u32, other: u32) -> u32
 }
 
 // So many steps up from v.
-fn raised(labels: &[u8], starts: &[u32; 1024], v: usize, steps: u32) -> Climb
-    requires { ⌜ Formed (now labels) × StartsFilled (now labels) (now starts) ⌝ }
+fn raised(labels: &[u8], tables: &[u32; 13312], v: usize, steps: u32) -> Climb
+    requires { ⌜ Formed (now labels) × StartsFilled (now labels) (now tables) ⌝ }
     requires { ⌜ (v < junctionsOf (now labels)) × (steps ≤ depthOf (now labels) v) ⌝ }
     ensures { λ r. ⌜ AncestorRead (now (labels .entry)) v steps (r .up) ⌝ }
     ensures { λ r. ⌜ OnClimb (now (labels .entry)) v (r .up) (r .own) (r .next) ⌝ }
 {
-    let start = number_of(starts, v);
+    let start = entry_at(tables, STARTS + v);
     let mut climb = Climb {
         up: v,
         own: start,
@@ -76,15 +77,15 @@ fn raised(labels: &[u8], starts: &[u32; 1024], v: usize, steps: u32) -> Climb
 }
 
 // The deepest common ancestor of x and y, with the lists of both for it.
-pub fn meet(labels: &[u8], depths: &[u32; 1024], starts: &[u32; 1024], x: usize, y: usize) -> Met
-    requires { ⌜ Formed (now labels) × DepthsFilled (now labels) (now depths) × StartsFilled (now labels) (now starts) ⌝ }
+pub fn meet(labels: &[u8], depths: &[u32; 1024], tables: &[u32; 13312], x: usize, y: usize) -> Met
+    requires { ⌜ Formed (now labels) × DepthsFilled (now labels) (now depths) × StartsFilled (now labels) (now tables) ⌝ }
     requires { ⌜ (x < junctionsOf (now labels)) × (y < junctionsOf (now labels)) ⌝ }
     ensures { λ r. ⌜ MetWithLists (now (labels .entry)) x y r ⌝ }
 {
     let depth_x = depths[x];
     let depth_y = depths[y];
-    let mut near = raised(labels, starts, x, deeper_by(depth_x, depth_y));
-    let mut far = raised(labels, starts, y, deeper_by(depth_y, depth_x));
+    let mut near = raised(labels, tables, x, deeper_by(depth_x, depth_y));
+    let mut far = raised(labels, tables, y, deeper_by(depth_y, depth_x));
     while near.up != far.up {
         let up = near.up;
         if depths[up] == 0 {

@@ -29,7 +29,7 @@ fn count_joined(
     net: &[u8],
     labels: &[u8],
     depths: &[u32; 1024],
-    starts: &[u32; 1024],
+    tables: &[u32; 13312],
     x: usize,
     y: usize,
     near: usize,
@@ -37,7 +37,7 @@ fn count_joined(
     levels: u32,
     leasts: &mut [u32; 2048],
 ) -> u32
-    requires { ⌜ Prepared (now net) (now labels) (now depths) (now starts) ⌝ }
+    requires { ⌜ Prepared (now net) (now labels) (now depths) (now tables) ⌝ }
     requires { ⌜ ListsBetween (now labels) x y near far levels ⌝ }
     requires { ⌜ length (now leasts) ≡ spanSeconds ⌝ }
     ensures { λ r. ⌜ ((l : List Weight) → IsTradeOff (networkOf (now (net .entry))) x y l → r ≡ length l) ⌝ }
@@ -64,7 +64,7 @@ fn fill_joined(
     net: &[u8],
     labels: &[u8],
     depths: &[u32; 1024],
-    starts: &[u32; 1024],
+    tables: &[u32; 13312],
     x: usize,
     y: usize,
     near: usize,
@@ -75,7 +75,7 @@ fn fill_joined(
     energies: &mut [u32],
     leasts: &mut [u32; 2048],
 )
-    requires { ⌜ Prepared (now net) (now labels) (now depths) (now starts) ⌝ }
+    requires { ⌜ Prepared (now net) (now labels) (now depths) (now tables) ⌝ }
     requires { ⌜ ListsBetween (now labels) x y near far levels ⌝ }
     requires { ⌜ length (now leasts) ≡ spanSeconds ⌝ }
     requires { ⌜ ((l : List Weight) → IsTradeOff (networkOf (now net)) x y l → count ≡ length l) ⌝ }
@@ -105,11 +105,11 @@ pub fn list_count(
     net: &[u8],
     labels: &[u8],
     depths: &[u32; 1024],
-    starts: &[u32; 1024],
+    tables: &[u32; 13312],
     x: usize,
     y: usize,
 ) -> u32
-    requires { ⌜ Prepared (now net) (now labels) (now depths) (now starts) ⌝ }
+    requires { ⌜ Prepared (now net) (now labels) (now depths) (now tables) ⌝ }
     requires { ⌜ (x < junctionsOf (now labels)) × (y < junctionsOf (now labels)) ⌝ }
     ensures { λ r. ⌜ ((l : List Weight) → IsTradeOff (networkOf (now (net .entry))) x y l → r ≡ length l) ⌝ }
 {
@@ -118,7 +118,7 @@ pub fn list_count(
     if x == y {
         return 1;
     }
-    let lists = between(labels, depths, starts, x, y);
+    let lists = between(labels, depths, tables, x, y);
     match lists {
         Between::Nothing => 0,
         Between::List(at) => {
@@ -130,7 +130,7 @@ pub fn list_count(
                 net,
                 labels,
                 depths,
-                starts,
+                tables,
                 x,
                 y,
                 near,
@@ -147,14 +147,14 @@ pub fn list_fill(
     net: &[u8],
     labels: &[u8],
     depths: &[u32; 1024],
-    starts: &[u32; 1024],
+    tables: &[u32; 13312],
     x: usize,
     y: usize,
     count: u32,
     times: &mut [u32],
     energies: &mut [u32],
 )
-    requires { ⌜ Prepared (now net) (now labels) (now depths) (now starts) ⌝ }
+    requires { ⌜ Prepared (now net) (now labels) (now depths) (now tables) ⌝ }
     requires { ⌜ (x < junctionsOf (now labels)) × (y < junctionsOf (now labels)) ⌝ }
     requires { ⌜ ((l : List Weight) → IsTradeOff (networkOf (now net)) x y l → count ≡ length l) ⌝ }
     requires { ⌜ (count ≤ length (now times)) × (count ≤ length (now energies)) ⌝ }
@@ -166,7 +166,7 @@ pub fn list_fill(
         energies[0] = 0;
         return;
     }
-    let lists = between(labels, depths, starts, x, y);
+    let lists = between(labels, depths, tables, x, y);
     match lists {
         Between::Nothing => {}
         Between::List(at) => {
@@ -177,7 +177,7 @@ pub fn list_fill(
                 net,
                 labels,
                 depths,
-                starts,
+                tables,
                 x,
                 y,
                 near,

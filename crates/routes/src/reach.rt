@@ -193,7 +193,7 @@ pub fn reaches(
     net: &[u8],
     labels: &[u8],
     depths: &[u32; 1024],
-    starts: &[u32; 1024],
+    tables: &[u32; 13312],
     x: usize,
     y: usize,
     time: Seconds,
@@ -201,7 +201,7 @@ pub fn reaches(
     held: &mut usize,
     marks: &mut [u8; 1024],
 ) -> bool
-    requires { ⌜ Prepared (now net) (now labels) (now depths) (now starts) ⌝ }
+    requires { ⌜ Prepared (now net) (now labels) (now depths) (now tables) ⌝ }
     requires { ⌜ (x < junctionsOf (now net)) × (y < junctionsOf (now net)) ⌝ }
     requires { ⌜ Held (now net) (now labels) (now held) (now marks) ⌝ }
     ensures { λ r. ⌜ Decides (PathWithin (now (net .entry)) x y (pair (time .0) (units .0))) r ⌝ }
@@ -210,7 +210,7 @@ pub fn reaches(
     if x == y {
         return true;
     }
-    let met = meet(labels, depths, starts, x, y);
+    let met = meet(labels, depths, tables, x, y);
     let Met::At(l, near, far) = met else {
         return false;
     };

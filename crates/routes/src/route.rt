@@ -2,6 +2,7 @@
 // can still be spent.
 use super::reach::reaches;
 use bytes::u32_at;
+use network::roads::first_road;
 use network::roads::next_road;
 use network::roads::other_end;
 use network::roads::road_energy;
@@ -50,7 +51,7 @@ fn step_fits(
     net: &[u8],
     labels: &[u8],
     depths: &[u32; 1024],
-    starts: &[u32; 1024],
+    tables: &[u32; 13312],
     here: usize,
     y: usize,
     k: usize,
@@ -59,7 +60,7 @@ fn step_fits(
     held: &mut usize,
     marks: &mut [u8; 1024],
 ) -> bool
-    requires { ⌜ Prepared (now net) (now labels) (now depths) (now starts) ⌝ }
+    requires { ⌜ Prepared (now net) (now labels) (now depths) (now tables) ⌝ }
     requires { ⌜ y < junctionsOf (now net) ⌝ }
     requires { ⌜ k < roadsOf (now net) ⌝ }
     requires { ⌜ touches (now net) here k ≡ true ⌝ }
@@ -82,7 +83,7 @@ fn step_fits(
         net,
         labels,
         depths,
-        starts,
+        tables,
         next,
         y,
         rest_time,
@@ -97,9 +98,7 @@ fn step_road(
     net: &[u8],
     labels: &[u8],
     depths: &[u32; 1024],
-    starts: &[u32; 1024],
-    heads: &[u32; 1024],
-    nexts: &[u32; 8192],
+    tables: &[u32; 13312],
     here: usize,
     y: usize,
     time: Seconds,
@@ -107,8 +106,8 @@ fn step_road(
     held: &mut usize,
     marks: &mut [u8; 1024],
 ) -> usize
-    requires { ⌜ Prepared (now net) (now labels) (now depths) (now starts) ⌝ }
-    requires { ⌜ Grouped (now net) (now heads) (now nexts) ⌝ }
+    requires { ⌜ Prepared (now net) (now labels) (now depths) (now tables) ⌝ }
+    requires { ⌜ Grouped (now net) (now tables) ⌝ }
     requires { ⌜ (here < junctionsOf (now net)) × (y < junctionsOf (now net)) ⌝ }
     requires { ⌜ (here ≡ y → ⊥) ⌝ }
     requires { ⌜ Skyline (networkOf (now net)) here y (pair (time .0) (units .0)) ⌝ }
@@ -117,13 +116,13 @@ fn step_road(
     ensures { λ _. ⌜ Held (now (net .entry)) (now (labels .entry)) (now (held .exit)) (now (marks .exit)) ⌝ }
 {
     let roads = wide(u32_at(net, 8));
-    let mut k = wide(heads[here]);
+    let mut k = first_road(tables, here);
     while k < roads {
         if step_fits(
             net,
             labels,
             depths,
-            starts,
+            tables,
             here,
             y,
             k,
@@ -134,7 +133,7 @@ fn step_road(
         ) {
             return k;
         }
-        k = next_road(net, nexts, here, k);
+        k = next_road(net, tables, here, k);
     }
     k
 }
@@ -144,9 +143,7 @@ pub fn route(
     net: &[u8],
     labels: &[u8],
     depths: &[u32; 1024],
-    starts: &[u32; 1024],
-    heads: &[u32; 1024],
-    nexts: &[u32; 8192],
+    tables: &[u32; 13312],
     x: usize,
     y: usize,
     time: Seconds,
@@ -154,8 +151,8 @@ pub fn route(
     junctions: &mut [u32; 1024],
     marks: &mut [u8; 1024],
 ) -> usize
-    requires { ⌜ Prepared (now net) (now labels) (now depths) (now starts) ⌝ }
-    requires { ⌜ Grouped (now net) (now heads) (now nexts) ⌝ }
+    requires { ⌜ Prepared (now net) (now labels) (now depths) (now tables) ⌝ }
+    requires { ⌜ Grouped (now net) (now tables) ⌝ }
     requires { ⌜ (x < junctionsOf (now net)) × (y < junctionsOf (now net)) ⌝ }
     requires { ⌜ Skyline (networkOf (now net)) x y (pair (time .0) (units .0)) ⌝ }
     requires { ⌜ (length (now junctions) ≡ 1024) × (length (now marks) ≡ 1024) ⌝ }
@@ -174,9 +171,7 @@ pub fn route(
             net,
             labels,
             depths,
-            starts,
-            heads,
-            nexts,
+            tables,
             here,
             y,
             rest_time,

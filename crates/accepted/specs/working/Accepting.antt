@@ -3,6 +3,7 @@ use mathlib.Core.Path.{_≡_}
 use mathlib.Core.List.{List}
 use Prim.Native.Nat.{ℕ}
 use lib.ListN.{length}
+use Rattle.tables.specs.working.Layout.{tablePlaces}
 use Rattle.network.specs.Versions.{versionOne}
 use Rattle.network.specs.NetworkNumber.{netNumber}
 use Rattle.stored.specs.working.Formed.{Tables}
@@ -17,10 +18,8 @@ pub record Accepted (net labels : List ℕ) : Type 0 where
   pub every-list-right : EveryListRight net labels
 
 -- The check, with the tables of one call left filled where the number is 0
-pub record Accepting (net labels : List ℕ) (number : ℕ) (depths starts heads nexts : List ℕ) : Type 0 where
+pub record Accepting (net labels : List ℕ) (number : ℕ) (depths tables : List ℕ) : Type 0 where
   pub checked : Checked net labels number
-  pub tables : number ≡ 0 → Tables net labels depths starts heads nexts
+  pub filled : number ≡ 0 → Tables net labels depths tables
   pub depths-length : length depths ≡ 1024
-  pub starts-length : length starts ≡ 1024
-  pub heads-length : length heads ≡ 1024
-  pub nexts-length : length nexts ≡ 8192
+  pub tables-length : length tables ≡ tablePlaces

@@ -9,6 +9,11 @@ use Rattle.network.specs.NetworkFile.{junctionsOf, RoadArc, networkOf}
 use Rattle.forest.specs.LabelFile.{parentsOf}
 use Rattle.forest.specs.Forest.{depthOf, ancestorOf}
 
+-- The places below k are not marked
+pub record Cleared (marks : List ℕ) (k : ℕ) : Type 0 where
+  pub places : length marks ≡ 1024
+  pub each : (j : ℕ) → j < k → getD marks j 0 ≡ 0
+
 -- Of the places up to `own` the last alone is marked
 pub record OneMark (marks : List ℕ) (own : ℕ) : Type 0 where
   pub places : length marks ≡ 1024

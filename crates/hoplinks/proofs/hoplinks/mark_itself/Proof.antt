@@ -1,15 +1,14 @@
 -- The loop has cleared every place below k, and stops at `own`, which is marked last.
 use Prim.Native.Nat.{_≤_, _-_}
 use native.Mathlib.Omega.{arith}
-use Rattle.network.specs.working.RoadsRead.{FilledBelow}
-use Rattle.network.proofs.GroupedRoads.{filled-more}
-use Rattle.hoplinks.proofs.Marks.{one-mark}
+use Rattle.hoplinks.specs.working.Marking.{Cleared}
+use Rattle.hoplinks.proofs.Marks.{cleared-more, one-mark}
 use borrow.Author.Needs.{needs}
 use Rattle.hoplinks.proofs.hoplinks.mark_itself.Statement.{statement}
 use Rattle.hoplinks.proofs.hoplinks.mark_itself.Tie as tie
 
 abbrev Inv-loop : tie.InvT-loop
-Inv-loop own marks₀ k₀ marks k = (k ≤ own) × FilledBelow marks 0 k
+Inv-loop own marks₀ k₀ marks k = (k ≤ own) × Cleared marks k
 
 abbrev μ-loop : tie.MeasureT-loop
 μ-loop own marks₀ k₀ marks k = own - k
@@ -27,7 +26,7 @@ loop-less : tie.Need-loop-less Inv-loop μ-loop
 loop-less c = search needs
 
 loop-again : tie.Need-loop-again Inv-loop μ-loop
-loop-again c = (omega arith, filled-more (c .before .loop .inv .1) (omega arith))
+loop-again c = (omega arith, cleared-more (c .before .loop .inv .1) (omega arith))
 
 element-write-marks-2 : tie.Need-element-write-marks-2 Inv-loop μ-loop
 element-write-marks-2 c = search needs

@@ -10,16 +10,19 @@ use Rattle.query.proofs.climbing.climb_of.Statement.{statement}
 use Rattle.query.proofs.climbing.climb_of.Tie as tie
 
 abbrev Inv-loop : tie.InvT-loop
-Inv-loop labels starts v steps here₀ done₀ here done = Climbs labels v (depthOf labels v - done) here × (done ≤ steps)
+Inv-loop labels tables v steps here₀ done₀ here done = Climbs labels v (depthOf labels v - done) here × (done ≤ steps)
 
 abbrev μ-loop : tie.MeasureT-loop
-μ-loop labels starts v steps here₀ done₀ here done = steps - done
+μ-loop labels tables v steps here₀ done₀ here done = steps - done
 
-number-of-requires : tie.Need-number-of-requires Inv-loop μ-loop
-number-of-requires c κs = search needs
+add-entry-at : tie.Need-add-entry-at Inv-loop μ-loop
+add-entry-at c = search needs
+
+entry-at-requires : tie.Need-entry-at-requires Inv-loop μ-loop
+entry-at-requires c κs = search needs
 
 loop-holds : tie.Need-loop-holds Inv-loop μ-loop
-loop-holds c = let pre = c .before .before .pre in (climb-starts (pre .0 .1) (pre .1 .0) refl refl (c .number-of .ensures), omega arith)
+loop-holds c = let pre = c .before .before .pre in (climb-starts (pre .0 .1) (pre .1 .0) refl refl (c .entry-at .ensures), omega arith)
 
 step-requires : tie.Need-step-requires Inv-loop μ-loop
 step-requires c κs =
@@ -49,7 +52,8 @@ climb-of-spec =
     (tie.spec
     Inv-loop
     μ-loop
-    number-of-requires
+    add-entry-at
+    entry-at-requires
     loop-holds
     step-requires
     add-done
