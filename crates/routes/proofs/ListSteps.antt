@@ -91,7 +91,7 @@ set-first (x ∷ old) v h = refl
 -- ---- Two trees
 
 pub apart-right :
-    {net s depths starts : List ℕ} {x y : ℕ} → Prepared net s depths starts → ((u : ℕ) → Common (parentsOf s) x y u → ⊥) → IsTradeOff (networkOf net) x y []
+    {net s depths tables : List ℕ} {x y : ℕ} → Prepared net s depths tables → ((u : ℕ) → Common (parentsOf s) x y u → ⊥) → IsTradeOff (networkOf net) x y []
 apart-right {s = s} prepared apart =
     record {
       rising = Rising.none;
@@ -108,7 +108,7 @@ unfolding tabulate
 map-tabulate g f zero = refl
 map-tabulate g f (suc n) = ap (λ l. g (f 0) ∷ l) (map-tabulate g (λ j. f (suc j)) n)
 
-module _ {net s depths starts : List ℕ} {x y at : ℕ} (prepared : Prepared net s depths starts) (between : ListBetween s x y at) where
+module _ {net s depths tables : List ℕ} {x y at : ℕ} (prepared : Prepared net s depths tables) (between : ListBetween s x y at) where
   -- its count is that of its entries
   pub stored-count : {count : ℕ} → count ≡ countAt s at → (l : List Weight) → IsTradeOff (networkOf net) x y l → count ≡ length l
   stored-count e = count-of (list-between-right prepared between) (e ∙ sym (length-tabulate (λ j. pair (timeAt s at j) (energyAt s at j)) (countAt s at)))
@@ -160,7 +160,7 @@ stands-all {Has = Has} {p} stands line =
     let same : z .one ≡ p = unbeaten-below number-lawful (rw (line .weighs) at (z .no-larger)) (λ b. line .unbeaten (w .walk) (rw (w .weighs) b)) in
     subst Has same (z .among)
 
-module _ {net s depths starts : List ℕ} (prepared : Prepared net s depths starts) {x y near far levels : ℕ} (two : ListsBetween s x y near far levels) where
+module _ {net s depths tables : List ℕ} (prepared : Prepared net s depths tables) {x y near far levels : ℕ} (two : ListsBetween s x y near far levels) where
   -- every unbeaten pair has less energy than the first bound
   line-small : {p : Weight} → Skyline (networkOf net) x y p → spent energy p < 2147483647
   line-small line = omega (arith, row-small (row-fits prepared two) (stands-all (row-stands prepared two) line) .1)
@@ -194,7 +194,7 @@ pub record CountingList (net s : List ℕ) (x y near far levels count bound : �
   pub both-small : count + bound ≤ 2147483647
   pub waits : Waiting (SumIn s (Row s near far levels)) bound span leasts
 
-module _ {net s depths starts : List ℕ} (prepared : Prepared net s depths starts) {x y near far levels : ℕ} (two : ListsBetween s x y near far levels) where
+module _ {net s depths tables : List ℕ} (prepared : Prepared net s depths tables) {x y near far levels : ℕ} (two : ListsBetween s x y near far levels) where
   -- before the first turn
   pub count-start : {span : Span} {leasts : List ℕ} → NoSpan span → length leasts ≡ spanSeconds → CountingList net s x y near far levels 0 2147483647 span leasts
   count-start empty long =
@@ -250,7 +250,7 @@ pub record FillingList (net s : List ℕ) (x y near far levels : ℕ) (outTimes 
   pub filling : Filling list outTimes outEnergies bound place nowTimes nowEnergies
   pub waits : Waiting (SumIn s (Row s near far levels)) bound span leasts
 
-module _ {net s depths starts : List ℕ} (prepared : Prepared net s depths starts) {x y near far levels : ℕ} (two : ListsBetween s x y near far levels)
+module _ {net s depths tables : List ℕ} (prepared : Prepared net s depths tables) {x y near far levels : ℕ} (two : ListsBetween s x y near far levels)
     {outTimes outEnergies : List ℕ} where
   -- before the first turn
   pub fill-start :

@@ -51,7 +51,7 @@ held-none places h = record { places = places; kept = λ g. absurd (omega arith)
 -- ---- Where the lists of two junctions stand
 
 -- a junction of the network is one of the labels
-pub on-labels : {net s depths starts : List ℕ} {v : ℕ} → Prepared net s depths starts → v < junctionsOf net → v < junctionsOf s
+pub on-labels : {net s depths tables : List ℕ} {v : ℕ} → Prepared net s depths tables → v < junctionsOf net → v < junctionsOf s
 on-labels prepared h = omega (arith, prepared .beside .one-map)
 
 -- the answer told: where they meet, or nowhere
@@ -133,7 +133,7 @@ pub reach-itself : {net : List ℕ} {x y : ℕ} {p : Weight} → x ≡ y → Dec
 unfolding weight
 reach-itself e = found-yes (rw (← e) (record { walk = stay; no-larger = (omega arith, omega arith) }))
 
-module _ {net s depths starts : List ℕ} (prepared : Prepared net s depths starts) {x y : ℕ} {p : Weight} where
+module _ {net s depths tables : List ℕ} (prepared : Prepared net s depths tables) {x y : ℕ} {p : Weight} where
   -- junctions of different trees
   pub reach-apart : ((u : ℕ) → Common (parentsOf s) x y u → ⊥) → Decides (PathWithin net x y p) false
   reach-apart none =

@@ -18,10 +18,9 @@ use Rattle.paths.proofs.Weights.{weights-lawful, ⊕-cancel-eq-right}
 use Rattle.paths.proofs.RouteStep.{Smallest, firstAmong-same, first-step, rest-of-only-arc, covering-spends, rest-skyline}
 use Rattle.network.specs.NetworkFile.{junctionsOf, roadsOf, roadTime, roadEnergy, RoadArc, networkOf}
 use Rattle.network.specs.working.Roads.{touches, otherEnd, nextRoad, Grouped}
-use Rattle.network.specs.working.RoadsRead.{NextsFilled}
+use Rattle.tables.specs.working.Layout.{firstsFrom}
 use Rattle.network.specs.working.Fits.{NetworkFits}
 use Rattle.network.proofs.Arcs.{one-weight}
-use Rattle.network.proofs.GroupedRoads.{nexts-filled}
 use Rattle.network.proofs.RoadsAt.{nextRoad-low, nextRoad-touches, nextRoad-passed, touches-arc, arc-touches, others-rise}
 use Rattle.refusals.specs.working.Decides.{Decides}
 use Rattle.routes.specs.working.Reach.{PathWithin}
@@ -95,10 +94,10 @@ step-decided {net} {x} {y} {k} {seconds} {units} {takes} {spends} {next} {left} 
 
 -- what the road after one of x is asked with
 pub road-follows :
-    {net heads nexts : List ℕ} {x y k seconds units : ℕ} → NetworkFits net → Grouped net heads nexts → RoadSearch net x y seconds units k →
-    k < roadsOf net → NetworkFits net × NextsFilled net nexts × (k < roadsOf net) × (touches net x k ≡ true)
+    {net tables : List ℕ} {x y k seconds units : ℕ} → NetworkFits net → Grouped net tables → RoadSearch net x y seconds units k →
+    k < roadsOf net → NetworkFits net × Grouped net tables × (k < roadsOf net) × (touches net x k ≡ true)
 road-follows fits grouped now h =
-    (fits, nexts-filled grouped, h, now .at-start h)
+    (fits, grouped, h, now .at-start h)
 
 module _ {net : List ℕ} (fits : NetworkFits net) where
   -- a first arc whose rest is walked fits
@@ -127,10 +126,10 @@ module _ {net : List ℕ} (fits : NetworkFits net) where
 
   -- the first road of x
   pub search-start :
-      {x y seconds units k : ℕ} {heads nexts : List ℕ} → Grouped net heads nexts → x < junctionsOf net → k ≡ getD heads x 0 →
+      {x y seconds units k : ℕ} {tables : List ℕ} → Grouped net tables → x < junctionsOf net → k ≡ getD tables (firstsFrom + x) 0 →
       RoadSearch net x y seconds units k
   search-start {x} grouped on-map e =
-      rw (e, grouped .head x on-map) (
+      rw (e, grouped .first x on-map) (
       record {
         at-start = λ h. nextRoad-touches net x 0 h;
         none-before = λ j h here step. let z = nextRoad-passed net x 0 j here h in absurd (omega arith);

@@ -7,11 +7,11 @@ use Rattle.routes.proofs.climb.meet.Statement.{statement}
 use Rattle.routes.proofs.climb.meet.Tie as tie
 
 abbrev Inv-loop : tie.InvT-loop
-Inv-loop labels depths starts x y depth-x depth-y near₀ far₀ near far =
+Inv-loop labels depths tables x y depth-x depth-y near₀ far₀ near far =
     BothUp labels x y (near .up) (near .own) (near .next) (far .up) (far .own) (far .next)
 
 abbrev μ-loop : tie.MeasureT-loop
-μ-loop labels depths starts x y depth-x depth-y near₀ far₀ near far = depthOf labels (near .up)
+μ-loop labels depths tables x y depth-x depth-y near₀ far₀ near far = depthOf labels (near .up)
 
 mul-depth-x : tie.Need-mul-depth-x Inv-loop μ-loop
 mul-depth-x c = search needs

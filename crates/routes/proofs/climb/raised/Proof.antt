@@ -7,18 +7,21 @@ use Rattle.routes.proofs.climb.raised.Statement.{statement}
 use Rattle.routes.proofs.climb.raised.Tie as tie
 
 abbrev Inv-loop : tie.InvT-loop
-Inv-loop labels starts v steps start climb₀ k₀ climb k = Rising labels v steps k (climb .up) (climb .own) (climb .next)
+Inv-loop labels tables v steps start climb₀ k₀ climb k = Rising labels v steps k (climb .up) (climb .own) (climb .next)
 
 abbrev μ-loop : tie.MeasureT-loop
-μ-loop labels starts v steps start climb₀ k₀ climb k = steps - k
+μ-loop labels tables v steps start climb₀ k₀ climb k = steps - k
 
-number-of-requires : tie.Need-number-of-requires Inv-loop μ-loop
-number-of-requires c κs = search needs
+add-entry-at : tie.Need-add-entry-at Inv-loop μ-loop
+add-entry-at c = search needs
+
+entry-at-requires : tie.Need-entry-at-requires Inv-loop μ-loop
+entry-at-requires c κs = search needs
 
 loop-holds : tie.Need-loop-holds Inv-loop μ-loop
 loop-holds c =
     let p = c .before .before .pre in
-    rising-start (p .0 .0) (p .1 .0) _ (c .number-of .ensures ∙ p .0 .1 .start _ (p .1 .0))
+    rising-start (p .0 .0) (p .1 .0) _ (c .entry-at .ensures ∙ p .0 .1 .start _ (p .1 .0))
 
 step-requires : tie.Need-step-requires Inv-loop μ-loop
 step-requires c κs =
@@ -50,7 +53,8 @@ raised-spec =
     (tie.spec
     Inv-loop
     μ-loop
-    number-of-requires
+    add-entry-at
+    entry-at-requires
     loop-holds
     step-requires
     add-k

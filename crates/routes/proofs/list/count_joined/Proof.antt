@@ -8,11 +8,11 @@ use Rattle.routes.proofs.list.count_joined.Statement.{statement}
 use Rattle.routes.proofs.list.count_joined.Tie as tie
 
 abbrev Inv-loop : tie.InvT-loop
-Inv-loop net labels depths starts x y near far levels leasts₀ span₀ count₀ bound₀ leasts span count bound =
+Inv-loop net labels depths tables x y near far levels leasts₀ span₀ count₀ bound₀ leasts span count bound =
     CountingList net labels x y near far levels count bound span leasts
 
 abbrev μ-loop : tie.MeasureT-loop
-μ-loop net labels depths starts x y near far levels leasts₀ span₀ count₀ bound₀ leasts span count bound =
+μ-loop net labels depths tables x y near far levels leasts₀ span₀ count₀ bound₀ leasts span count bound =
     bound
 
 no-span-requires : tie.Need-no-span-requires Inv-loop μ-loop

@@ -9,11 +9,11 @@ use Rattle.routes.proofs.list.fill_joined.Statement.{statement}
 use Rattle.routes.proofs.list.fill_joined.Tie as tie
 
 abbrev Inv-loop : tie.InvT-loop
-Inv-loop net labels depths starts x y near far levels count times₀ energies₀ leasts₀ span₀ place₀ below₀ times energies leasts span place below =
+Inv-loop net labels depths tables x y near far levels count times₀ energies₀ leasts₀ span₀ place₀ below₀ times energies leasts span place below =
     FillingList net labels x y near far levels times₀ energies₀ below place times energies span leasts
 
 abbrev μ-loop : tie.MeasureT-loop
-μ-loop net labels depths starts x y near far levels count times₀ energies₀ leasts₀ span₀ place₀ below₀ times energies leasts span place below =
+μ-loop net labels depths tables x y near far levels count times₀ energies₀ leasts₀ span₀ place₀ below₀ times energies leasts span place below =
     place
 
 no-span-requires : tie.Need-no-span-requires Inv-loop μ-loop

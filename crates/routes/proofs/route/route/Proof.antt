@@ -9,11 +9,11 @@ use Rattle.routes.proofs.route.route.Statement.{statement}
 use Rattle.routes.proofs.route.route.Tie as tie
 
 abbrev Inv-loop : tie.InvT-loop
-Inv-loop net labels depths starts heads nexts x y junctions₀ marks₀ here₀ rest-time₀ rest-units₀ count₀ held₀ junctions marks here rest-time rest-units count held =
+Inv-loop net labels depths tables x y junctions₀ marks₀ here₀ rest-time₀ rest-units₀ count₀ held₀ junctions marks here rest-time rest-units count held =
     OnWay net x y (rest-time₀ .0) (rest-units₀ .0) junctions count here (rest-time .0) (rest-units .0) × Held net labels held marks
 
 abbrev μ-loop : tie.MeasureT-loop
-μ-loop net labels depths starts heads nexts x y junctions₀ marks₀ here₀ rest-time₀ rest-units₀ count₀ held₀ junctions marks here rest-time rest-units count held =
+μ-loop net labels depths tables x y junctions₀ marks₀ here₀ rest-time₀ rest-units₀ count₀ held₀ junctions marks here rest-time rest-units count held =
     rest-time .0
 
 loop-holds : tie.Need-loop-holds Inv-loop μ-loop
