@@ -13,30 +13,31 @@ use Rattle.stored.specs.Stored.{listPlace}
 use Rattle.stored.specs.working.Formed.{ListFits, Formed}
 use Rattle.stored.proofs.Places.{list-takes}
 use Rattle.stored.proofs.Passed.{below-on-map, stored-fits}
+use Rattle.preorder.specs.working.Numbered.{junctionAt, spotOf}
 use Rattle.agree.specs.working.Agreeing.{PlacesFor}
 use Rattle.exact.specs.working.Sweep.{BlockOf, MovedOn}
 
 -- Those before spot i have moved
-pub record Moving (s spots : List ℕ) (from i : ℕ) (before now : List ℕ) : Type 0 where
+pub record Moving (s tables : List ℕ) (from i : ℕ) (before now : List ℕ) : Type 0 where
   pub onward : from ≤ i
-  pub so-far : MovedOn s spots from i before now
+  pub so-far : MovedOn s tables from i before now
 
 -- none has moved
-pub moving-none : {s spots places : List ℕ} {from : ℕ} → length places ≡ 1024 → Moving s spots from from places places
+pub moving-none : {s tables places : List ℕ} {from : ℕ} → length places ≡ 1024 → Moving s tables from from places places
 moving-none places-length =
     record {
       onward = omega arith;
       so-far = record { one-length = places-length; moved = λ v on-map not-before before. absurd (omega arith); unmoved = λ v on-map apart. refl };
     }
 
-module _ {s spots order : List ℕ} {u from to i v : ℕ} {before now : List ℕ} (formed : Formed s) (block : BlockOf s spots order u from to)
-    (places : PlacesFor s u before) (moving : Moving s spots from i before now) (more : i < to) (v-is : v ≡ getD order i 0) where
+module _ {s tables : List ℕ} {u from to i v : ℕ} {before now : List ℕ} (formed : Formed s) (block : BlockOf s tables u from to)
+    (places : PlacesFor s u before) (moving : Moving s tables from i before now) (more : i < to) (v-is : v ≡ junctionAt tables i) where
   -- the junction at spot i
   pub here-on-map : v < junctionsOf s
   here-on-map = rw v-is (below-on-map s (block .below i (moving .onward) more))
 
-  spot-is : getD spots v 0 ≡ i
-  spot-is = ap (λ w. getD spots w 0) v-is ∙ block .spot-of i (moving .onward) more
+  spot-is : spotOf tables v ≡ i
+  spot-is = ap (λ w. spotOf tables w) v-is ∙ block .spot-of i (moving .onward) more
 
   unmoved-yet : getD now v 0 ≡ getD before v 0
   unmoved-yet = moving .so-far .unmoved v here-on-map (λ not-before before. omega (arith, spot-is))
@@ -56,7 +57,7 @@ module _ {s spots order : List ℕ} {u from to i v : ℕ} {before now : List ℕ
     next-inside e = omega (arith, fits .inside)
 
     -- one more has moved
-    pub moving-more : {next : ℕ} → next ≡ listEnd s here → Moving s spots from (i + 1) before (set now v next)
+    pub moving-more : {next : ℕ} → next ≡ listEnd s here → Moving s tables from (i + 1) before (set now v next)
     moving-more {next} next-is =
         record {
           onward = omega (arith, moving .onward);
@@ -66,7 +67,7 @@ module _ {s spots order : List ℕ} {u from to i v : ℕ} {before now : List ℕ
                 moved = λ w on-map not-before below. pick w on-map not-before below (ℕ-discrete w v);
                 unmoved =
                     λ w on-map apart.
-                    getD-set-other now v w next 0 (λ e. apart (omega (arith, ap (λ x. getD spots x 0) e, spot-is, moving .onward)) (omega (arith, ap (λ x. getD spots x 0) e, spot-is))) ∙
+                    getD-set-other now v w next 0 (λ e. apart (omega (arith, ap (λ x. spotOf tables x) e, spot-is, moving .onward)) (omega (arith, ap (λ x. spotOf tables x) e, spot-is))) ∙
                     moving .so-far .unmoved w on-map (λ not-before below. apart not-before (omega arith));
               };
         }
@@ -75,22 +76,22 @@ module _ {s spots order : List ℕ} {u from to i v : ℕ} {before now : List ℕ
         inside = omega (arith, here-on-map, formed .parents .few-junctions, moving .so-far .one-length)
 
         -- spots tell junctions apart
-        same-spot : (w : ℕ) → w < junctionsOf s → getD spots w 0 ≡ i → w ≡ v
-        same-spot w on-map e = sym (block .at-spot w on-map) ∙ ap (λ j. getD order j 0) e ∙ sym v-is
+        same-spot : (w : ℕ) → w < junctionsOf s → spotOf tables w ≡ i → w ≡ v
+        same-spot w on-map e = sym (block .at-spot w on-map) ∙ ap (λ j. junctionAt tables j) e ∙ sym v-is
 
         pick :
-            (w : ℕ) → w < junctionsOf s → from ≤ getD spots w 0 → getD spots w 0 < i + 1 → Dec (w ≡ v) →
+            (w : ℕ) → w < junctionsOf s → from ≤ spotOf tables w → spotOf tables w < i + 1 → Dec (w ≡ v) →
             getD (set now v next) w 0 ≡ listEnd s (getD before w 0)
         pick w on-map not-before below (yes e) =
             ap (λ x. getD (set now v next) x 0) e ∙ getD-set-same now v next 0 inside ∙ next-is ∙
             ap (listEnd s) (here-is ∙ unmoved-yet ∙ ap (λ x. getD before x 0) (sym e))
         pick w on-map not-before below (no apart) =
-            getD-set-other now v w next 0 apart ∙ moving .so-far .moved w on-map not-before (before-i (ℕ-discrete (getD spots w 0) i))
+            getD-set-other now v w next 0 apart ∙ moving .so-far .moved w on-map not-before (before-i (ℕ-discrete (spotOf tables w) i))
           where
-            before-i : Dec (getD spots w 0 ≡ i) → getD spots w 0 < i
+            before-i : Dec (spotOf tables w ≡ i) → spotOf tables w < i
             before-i (yes e) = absurd (apart (same-spot w on-map e))
             before-i (no n) = omega arith
 
 -- all have moved
-pub moving-all : {s spots : List ℕ} {from i to : ℕ} {before now : List ℕ} → Moving s spots from i before now → i ≡ to → MovedOn s spots from to before now
+pub moving-all : {s tables : List ℕ} {from i to : ℕ} {before now : List ℕ} → Moving s tables from i before now → i ≡ to → MovedOn s tables from to before now
 moving-all moving e = rw (sym e) (moving .so-far)

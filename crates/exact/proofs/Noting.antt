@@ -8,6 +8,7 @@ use native.Mathlib.Omega.{arith}
 use lib.ListN.{length, getD, set, length-set}
 use lib.Seq.{getD-set-same, getD-set-other}
 use Rattle.paths.specs.Forest.{Above}
+use Rattle.tables.specs.working.Layout.{startsFrom}
 use Rattle.network.specs.NetworkFile.{junctionsOf}
 use Rattle.forest.specs.LabelFile.{parentAt, parentsOf, listEnd}
 use Rattle.forest.specs.Forest.{depthOf, ancestorOf}
@@ -33,8 +34,8 @@ pub record Noting (s : List ℕ) (u k w here : ℕ) (before now : List ℕ) : Ty
 module _ {s : List ℕ} (formed : Formed s) {u : ℕ} (below : u < junctionsOf s) where
   -- none is noted
   pub noting-none :
-      {depths starts places : List ℕ} {deep start : ℕ} → DepthsFilled s depths → StartsFilled s starts → deep ≡ getD depths u 0 →
-      start ≡ getD starts u 0 → length places ≡ 1024 → Noting s u deep u start places places
+      {depths tables places : List ℕ} {deep start : ℕ} → DepthsFilled s depths → StartsFilled s tables → deep ≡ getD depths u 0 →
+      start ≡ getD tables (startsFrom + u) 0 → length places ≡ 1024 → Noting s u deep u start places places
   noting-none {deep = deep} depths-filled starts-filled deep-is start-is places-length =
       record {
         few = omega (arith, whole);

@@ -10,6 +10,7 @@ use lib.ListN.{length, getD, set, length-set}
 use lib.Seq.{getD-set-same, getD-set-other}
 use Rattle.paths.specs.Forest.{Above, Ancestor}
 use Rattle.paths.proofs.Forest.{ancestor-refl, ancestors-related, ancestor-of-parent, child-towards}
+use Rattle.tables.specs.working.Layout.{startsFrom}
 use Rattle.network.specs.NetworkFile.{junctionsOf}
 use Rattle.forest.specs.LabelFile.{parentsOf, listEnd}
 use Rattle.forest.specs.Forest.{depthOf}
@@ -19,16 +20,16 @@ use Rattle.stored.specs.Stored.{listsBefore, placeOf, listPlace}
 use Rattle.stored.specs.working.Formed.{Formed, StartsFilled}
 use Rattle.stored.proofs.Places.{place-next}
 use Rattle.stored.proofs.Passed.{below-on-map}
-use Rattle.preorder.specs.working.Numbered.{Numbered}
+use Rattle.preorder.specs.working.Numbered.{Numbered, junctionAt, spotOf, sizeOf}
 use Rattle.agree.specs.working.Agreeing.{PlacesFor}
 use Rattle.exact.specs.working.Sweep.{Swept, Noted, MovedOn, BlockOf}
 
-module _ {s : List ℕ} (formed : Formed s) {spots sizes order : List ℕ} (numbered : Numbered s spots sizes order) where
+module _ {s : List ℕ} (formed : Formed s) {tables : List ℕ} (numbered : Numbered s tables) where
   -- ---- The block of a junction
 
   -- a junction's ancestors stand before it
-  spots-rise : {p c : ℕ} → Above (parentsOf s) p c → getD spots p 0 < getD spots c 0
-  spots-rise {p} {c} above = pick (ℕ-discrete (getD spots p 0) (getD spots c 0))
+  spots-rise : {p c : ℕ} → Above (parentsOf s) p c → spotOf tables p < spotOf tables c
+  spots-rise {p} {c} above = pick (ℕ-discrete (spotOf tables p) (spotOf tables c))
     where
       p-on-map : p < junctionsOf s
       p-on-map = above-at (formed .parents) above .on-map
@@ -37,32 +38,32 @@ module _ {s : List ℕ} (formed : Formed s) {spots sizes order : List ℕ} (numb
       c-on-map = below-on-map s above
 
       -- two junctions at one spot would be one
-      same : getD spots p 0 ≡ getD spots c 0 → p ≡ c
-      same e = sym (numbered .at-spot p p-on-map) ∙ ap (λ i. getD order i 0) e ∙ numbered .at-spot c c-on-map
+      same : spotOf tables p ≡ spotOf tables c → p ≡ c
+      same e = sym (numbered .at-spot p p-on-map) ∙ ap (λ i. junctionAt tables i) e ∙ numbered .at-spot c c-on-map
 
-      pick : Dec (getD spots p 0 ≡ getD spots c 0) → getD spots p 0 < getD spots c 0
+      pick : Dec (spotOf tables p ≡ spotOf tables c) → spotOf tables p < spotOf tables c
       pick (yes e) = absurd (omega (arith, above-shallower s (formed .parents .ends) above, ap (depthOf s) (same e)))
       pick (no apart) = omega (arith, numbered .in-block p c p-on-map c-on-map (inr above) .0)
 
   -- and before itself a junction does not stand
-  ancestor-spot : {p c : ℕ} → Ancestor (parentsOf s) p c → getD spots p 0 ≤ getD spots c 0
-  ancestor-spot a = ⊎-elim (λ e. omega (arith, ap (λ x. getD spots x 0) e)) (λ above. omega (arith, spots-rise above)) a
+  ancestor-spot : {p c : ℕ} → Ancestor (parentsOf s) p c → spotOf tables p ≤ spotOf tables c
+  ancestor-spot a = ⊎-elim (λ e. omega (arith, ap (λ x. spotOf tables x) e)) (λ above. omega (arith, spots-rise above)) a
 
-  module _ {i u size : ℕ} (inside : i < junctionsOf s) (u-is : u ≡ getD order i 0) (size-is : size ≡ getD sizes u 0) where
+  module _ {i u size : ℕ} (inside : i < junctionsOf s) (u-is : u ≡ junctionAt tables i) (size-is : size ≡ sizeOf tables u) where
     pub swept-on-map : u < junctionsOf s
     swept-on-map = omega (arith, u-is, numbered .on-map i inside)
 
-    spot-is : getD spots u 0 ≡ i
-    spot-is = ap (λ x. getD spots x 0) u-is ∙ numbered .spot-of i inside
+    spot-is : spotOf tables u ≡ i
+    spot-is = ap (λ x. spotOf tables x) u-is ∙ numbered .spot-of i inside
 
     pub block-end : i + size ≤ junctionsOf s
     block-end = omega (arith, numbered .block-inside u swept-on-map, spot-is)
 
     -- the junctions right behind u are those below it
-    pub block-of : BlockOf s spots order u (i + 1) (i + size)
+    pub block-of : BlockOf s tables u (i + 1) (i + size)
     block-of =
         record {
-          order-places = numbered .order-length;
+          places = numbered .places;
           on-map = swept-on-map;
           inside = block-end;
           forward = omega (arith, numbered .in-block u u swept-on-map swept-on-map (inl refl) .1, spot-is);
@@ -74,22 +75,22 @@ module _ {s : List ℕ} (formed : Formed s) {spots sizes order : List ℕ} (numb
               (omega (arith, spots-rise above, spot-is), omega (arith, numbered .in-block u v swept-on-map (below-on-map s above) (inr above) .1, spot-is));
         }
       where
-        related : (j : ℕ) → i + 1 ≤ j → j < i + size → Ancestor (parentsOf s) u (getD order j 0)
+        related : (j : ℕ) → i + 1 ≤ j → j < i + size → Ancestor (parentsOf s) u (junctionAt tables j)
         related j from to =
             let on = numbered .on-map j (omega (arith, block-end)) in
             let spot = numbered .spot-of j (omega (arith, block-end)) in
-            numbered .block-below u (getD order j 0) swept-on-map on (omega (arith, spot, spot-is)) (omega (arith, spot, spot-is))
+            numbered .block-below u (junctionAt tables j) swept-on-map on (omega (arith, spot, spot-is)) (omega (arith, spot, spot-is))
 
-        proper : (j : ℕ) → i + 1 ≤ j → j < i + size → Ancestor (parentsOf s) u (getD order j 0) → Above (parentsOf s) u (getD order j 0)
+        proper : (j : ℕ) → i + 1 ≤ j → j < i + size → Ancestor (parentsOf s) u (junctionAt tables j) → Above (parentsOf s) u (junctionAt tables j)
         proper j from to a =
             ⊎-elim
-            (λ e. absurd (omega (arith, ap (λ x. getD spots x 0) e, spot-is, numbered .spot-of j (omega (arith, block-end)))))
+            (λ e. absurd (omega (arith, ap (λ x. spotOf tables x) e, spot-is, numbered .spot-of j (omega (arith, block-end)))))
             (λ above. above)
             a
 
     -- ---- Before its turn
 
-    module _ {places : List ℕ} (swept : Swept s spots (i + 1) places) where
+    module _ {places : List ℕ} (swept : Swept s tables (i + 1) places) where
       -- the junctions below u stand at their lists for u
       waits-for : {v : ℕ} → Above (parentsOf s) u v → getD places v 0 ≡ listPlace s v u
       unfolding listPlace
@@ -108,7 +109,7 @@ module _ {s : List ℕ} (formed : Formed s) {spots sizes order : List ℕ} (numb
               let has = parents-some s (child .hangs) in
               depth-parent s (child .branch) (has .no-root) (formed .parents .ends (child .branch) (has .on-map)) ∙ ap (λ x. suc (depthOf s x)) (has .parent)
 
-          earlier : (p : ℕ) → Above (parentsOf s) p (child .branch) → getD spots p 0 < i + 1
+          earlier : (p : ℕ) → Above (parentsOf s) p (child .branch) → spotOf tables p < i + 1
           earlier p above-child = omega (arith, ancestor-spot (ancestor-of-parent (child .hangs) above-child), spot-is)
 
       -- with u's own lists noted, the places are those of the lists for u
@@ -119,7 +120,7 @@ module _ {s : List ℕ} (formed : Formed s) {spots sizes order : List ℕ} (numb
             below =
                 λ w on-map above.
                 noted .others w (λ up. omega (arith, spots-rise above, spots-rise up)) ∙
-                getD-set-other places u w start 0 (λ e. omega (arith, spots-rise above, ap (λ x. getD spots x 0) e)) ∙ waits-for above;
+                getD-set-other places u w start 0 (λ e. omega (arith, spots-rise above, ap (λ x. spotOf tables x) e)) ∙ waits-for above;
             above = λ w on-map up. noted .above w up;
           }
 
@@ -130,9 +131,9 @@ module _ {s : List ℕ} (formed : Formed s) {spots sizes order : List ℕ} (numb
           (moved : (v : ℕ) → Above (parentsOf s) u v → getD after v 0 ≡ listEnd s (getD places v 0))
           (others : (v : ℕ) → v < junctionsOf s → (Ancestor (parentsOf s) u v → ⊥) → (Above (parentsOf s) v u → ⊥) → getD after v 0 ≡ getD places v 0)
           (after-length : length after ≡ 1024) where
-        pub swept-more : Swept s spots i after
+        pub swept-more : Swept s tables i after
         unfolding listPlace
-        swept-more = record { places-length = after-length; stands = λ v c on-map a from topmost. pick v c on-map a from topmost (ℕ-discrete (getD spots c 0) i) }
+        swept-more = record { places-length = after-length; stands = λ v c on-map a from topmost. pick v c on-map a from topmost (ℕ-discrete (spotOf tables c) i) }
           where
             -- the topmost swept ancestor is u
             at-top : (v : ℕ) → Ancestor (parentsOf s) u v → getD after v 0 ≡ placeOf s (listsBefore s v + (depthOf s v - depthOf s u))
@@ -145,8 +146,8 @@ module _ {s : List ℕ} (formed : Formed s) {spots sizes order : List ℕ} (numb
                 a
 
             pick :
-                (v c : ℕ) → v < junctionsOf s → Ancestor (parentsOf s) c v → i ≤ getD spots c 0 →
-                ((p : ℕ) → Above (parentsOf s) p c → getD spots p 0 < i) → Dec (getD spots c 0 ≡ i) →
+                (v c : ℕ) → v < junctionsOf s → Ancestor (parentsOf s) c v → i ≤ spotOf tables c →
+                ((p : ℕ) → Above (parentsOf s) p c → spotOf tables p < i) → Dec (spotOf tables c ≡ i) →
                 getD after v 0 ≡ placeOf s (listsBefore s v + (depthOf s v - depthOf s c))
             pick v c on-map a from topmost (yes e) =
                 at-top v (rw c-is at a) ∙ ap (λ x. placeOf s (listsBefore s v + (depthOf s v - depthOf s x))) (sym c-is)
@@ -155,7 +156,7 @@ module _ {s : List ℕ} (formed : Formed s) {spots sizes order : List ℕ} (numb
                 c-on-map = ⊎-elim (λ same. rw same on-map) (λ above. above-at (formed .parents) above .on-map) a
 
                 c-is : c ≡ u
-                c-is = sym (numbered .at-spot c c-on-map) ∙ ap (λ j. getD order j 0) e ∙ sym u-is
+                c-is = sym (numbered .at-spot c c-on-map) ∙ ap (λ j. junctionAt tables j) e ∙ sym u-is
             pick v c on-map a from topmost (no apart) =
                 others v on-map no-ancestor no-descendant ∙
                 swept .stands v c on-map a (omega arith) (λ p above. omega (arith, topmost p above))
@@ -164,7 +165,7 @@ module _ {s : List ℕ} (formed : Formed s) {spots sizes order : List ℕ} (numb
                 no-ancestor : Ancestor (parentsOf s) u v → ⊥
                 no-ancestor b =
                     ⊎-elim
-                    (λ u-above. ⊎-elim (λ same. apart (ap (λ x. getD spots x 0) (sym same) ∙ spot-is)) (λ above. omega (arith, topmost u above, spot-is)) u-above)
+                    (λ u-above. ⊎-elim (λ same. apart (ap (λ x. spotOf tables x) (sym same) ∙ spot-is)) (λ above. omega (arith, topmost u above, spot-is)) u-above)
                     (λ c-above. omega (arith, ancestor-spot c-above, spot-is))
                     (ancestors-related b a)
 
@@ -172,36 +173,36 @@ module _ {s : List ℕ} (formed : Formed s) {spots sizes order : List ℕ} (numb
                 no-descendant up = omega (arith, spots-rise up, ancestor-spot a, spot-is)
 
       -- where no junction is below u, nothing but u's own place changes
-      pub swept-alone : {starts : List ℕ} → StartsFilled s starts → i + 1 ≡ i + size → Swept s spots i (set places u (getD starts u 0))
-      swept-alone {starts} starts-filled none =
+      pub swept-alone : StartsFilled s tables → i + 1 ≡ i + size → Swept s tables i (set places u (getD tables (startsFrom + u) 0))
+      swept-alone starts-filled none =
           swept-more
-          (getD-set-same places u (getD starts u 0) 0 (omega (arith, swept-on-map, formed .parents .few-junctions, swept .places-length)) ∙ starts-filled .start u swept-on-map)
+          (getD-set-same places u (getD tables (startsFrom + u) 0) 0 (omega (arith, swept-on-map, formed .parents .few-junctions, swept .places-length)) ∙ starts-filled .start u swept-on-map)
           (λ v above. absurd (omega (arith, block-of .all v above)))
-          (λ v on-map apart up. getD-set-other places u v (getD starts u 0) 0 (λ e. apart (inl (sym e))))
-          (length-set places u (getD starts u 0) ∙ swept .places-length)
+          (λ v on-map apart up. getD-set-other places u v (getD tables (startsFrom + u) 0) 0 (λ e. apart (inl (sym e))))
+          (length-set places u (getD tables (startsFrom + u) 0) ∙ swept .places-length)
 
       pub swept-moved :
-          {starts noted after : List ℕ} → StartsFilled s starts → Noted s u (set places u (getD starts u 0)) noted →
-          MovedOn s spots (i + 1) (i + size) noted after → Swept s spots i after
-      swept-moved {starts} {noted} {after} starts-filled noting moving =
+          {noted after : List ℕ} → StartsFilled s tables → Noted s u (set places u (getD tables (startsFrom + u) 0)) noted →
+          MovedOn s tables (i + 1) (i + size) noted after → Swept s tables i after
+      swept-moved {noted} {after} starts-filled noting moving =
           swept-more
           (moving .unmoved u swept-on-map (λ from to. omega (arith, spot-is)) ∙
           noting .others u (λ up. omega (arith, spots-rise up)) ∙
-          getD-set-same places u (getD starts u 0) 0 (omega (arith, swept-on-map, formed .parents .few-junctions, swept .places-length)) ∙
+          getD-set-same places u (getD tables (startsFrom + u) 0) 0 (omega (arith, swept-on-map, formed .parents .few-junctions, swept .places-length)) ∙
           starts-filled .start u swept-on-map)
           (λ v above.
           moving .moved v (below-on-map s above) (block-of .all v above .0) (block-of .all v above .1) ∙
-          ap (listEnd s) (noted-places (getD starts u 0) noting .below v (below-on-map s above) above ∙ sym (waits-for above)))
+          ap (listEnd s) (noted-places (getD tables (startsFrom + u) 0) noting .below v (below-on-map s above) above ∙ sym (waits-for above)))
           (λ v on-map apart up.
           moving .unmoved v on-map (λ from to. apart (numbered .block-below u v swept-on-map on-map (omega (arith, spot-is)) (omega (arith, spot-is, size-is)))) ∙
           noting .others v up ∙
-          getD-set-other places u v (getD starts u 0) 0 (λ e. apart (inl (sym e))))
+          getD-set-other places u v (getD tables (startsFrom + u) 0) 0 (λ e. apart (inl (sym e))))
           (moving .one-length)
 
   -- ---- The first turn
 
   -- no junction is swept
-  pub swept-none : {places : List ℕ} {n : ℕ} → n ≡ junctionsOf s → length places ≡ 1024 → Swept s spots n places
+  pub swept-none : {places : List ℕ} {n : ℕ} → n ≡ junctionsOf s → length places ≡ 1024 → Swept s tables n places
   swept-none n-is places-length =
       record {
         places-length = places-length;

@@ -20,7 +20,7 @@ use Rattle.stored.specs.working.Formed.{FilesFit}
 use Rattle.stored.specs.Right.{EveryListRight}
 use Rattle.stored.proofs.Passed.{below-on-map}
 use Rattle.agree.proofs.Exactness.{agreeing-is-right}
-use Rattle.preorder.specs.working.Numbered.{Numbered}
+use Rattle.preorder.specs.working.Numbered.{Numbered, junctionAt, spotOf}
 use Rattle.agree.specs.working.Agreeing.{PlacesFor, AgreeInput}
 use Rattle.exact.specs.working.Sweep.{Agrees, AgreesBelow, BlockOf}
 
@@ -34,29 +34,29 @@ decided-no n = record { holds = λ e. absurd (false≢true e); fails = λ e p. n
 -- ---- The lists for one junction
 
 -- The lists for u of the junctions before spot i agree
-pub record AgreedTo (net s order : List ℕ) (u from i : ℕ) : Type 0 where
+pub record AgreedTo (net s tables : List ℕ) (u from i : ℕ) : Type 0 where
   pub onward : from ≤ i
-  pub so-far : (j : ℕ) → from ≤ j → j < i → Agrees net s (getD order j 0) u
+  pub so-far : (j : ℕ) → from ≤ j → j < i → Agrees net s (junctionAt tables j) u
 
-pub agreed-none : {net s order : List ℕ} {u from : ℕ} → AgreedTo net s order u from from
+pub agreed-none : {net s tables : List ℕ} {u from : ℕ} → AgreedTo net s tables u from from
 agreed-none = record { onward = omega arith; so-far = λ j from to. absurd (omega arith) }
 
-module _ {net s spots order : List ℕ} {u from to : ℕ} (block : BlockOf s spots order u from to) where
-  module _ {i v : ℕ} (agreed : AgreedTo net s order u from i) (more : i < to) (v-is : v ≡ getD order i 0) where
+module _ {net s tables : List ℕ} {u from to : ℕ} (block : BlockOf s tables u from to) where
+  module _ {i v : ℕ} (agreed : AgreedTo net s tables u from i) (more : i < to) (v-is : v ≡ junctionAt tables i) where
     -- the list of the junction at spot i may be tested
     pub may-test :
-        {heads nexts places : List ℕ} → FilesFit net s → Grouped net heads nexts → PlacesFor s u places → AgreeInput net s heads nexts places v u
+        {places : List ℕ} → FilesFit net s → Grouped net tables → PlacesFor s u places → AgreeInput net s tables places v u
     may-test beside grouped places =
         let above : Above (parentsOf s) u v = rw v-is (block .below i (agreed .onward) more) in
         record { beside = beside; grouped = grouped; places-for = places; on-map = below-on-map s above; above = above }
 
     module _ {r : Bool} (decides : Decides (Agrees net s v u) r) where
       -- it agrees, or does not
-      pub agreed-more : not r ≡ false → AgreedTo net s order u from (i + 1)
+      pub agreed-more : not r ≡ false → AgreedTo net s tables u from (i + 1)
       agreed-more passed = record { onward = omega (arith, agreed .onward); so-far = λ j from-j below. pick j from-j below (ℕ-discrete j i) }
         where
-          pick : (j : ℕ) → from ≤ j → j < i + 1 → Dec (j ≡ i) → Agrees net s (getD order j 0) u
-          pick j from-j below (yes e) = rw (ap (λ k. getD order k 0) e ∙ sym v-is) (decides .holds (not-false r passed))
+          pick : (j : ℕ) → from ≤ j → j < i + 1 → Dec (j ≡ i) → Agrees net s (junctionAt tables j) u
+          pick j from-j below (yes e) = rw (ap (λ k. junctionAt tables k) e ∙ sym v-is) (decides .holds (not-false r passed))
           pick j from-j below (no apart) = agreed .so-far j from-j (omega arith)
 
       pub agreed-fails : not r ≡ true → Decides (AgreesBelow net s u) false
@@ -64,14 +64,14 @@ module _ {net s spots order : List ℕ} {u from to : ℕ} (block : BlockOf s spo
           decided-no (λ all. decides .fails (not-true r failed) (all .agrees (rw v-is (block .below i (agreed .onward) more))))
 
   -- all agree
-  pub agreed-all : {i : ℕ} → AgreedTo net s order u from i → to ≤ i → Decides (AgreesBelow net s u) true
+  pub agreed-all : {i : ℕ} → AgreedTo net s tables u from i → to ≤ i → Decides (AgreesBelow net s u) true
   agreed-all agreed over =
       decided-yes
       (record {
         agrees =
             λ {v} above.
             let inside = block .all v above in
-            rw (sym (block .at-spot v (below-on-map s above))) (agreed .so-far (getD spots v 0) (inside .0) (omega (arith, inside .1)));
+            rw (sym (block .at-spot v (below-on-map s above))) (agreed .so-far (spotOf tables v) (inside .0) (omega (arith, inside .1)));
       })
 
   -- with nothing below u there is nothing to agree
@@ -81,20 +81,20 @@ module _ {net s spots order : List ℕ} {u from to : ℕ} (block : BlockOf s spo
 -- ---- All junctions
 
 -- The lists for the junctions from spot i on agree
-pub record AgreedFrom (net s order : List ℕ) (i : ℕ) : Type 0 where
-  pub so-far : (j : ℕ) → i ≤ j → j < junctionsOf s → AgreesBelow net s (getD order j 0)
+pub record AgreedFrom (net s tables : List ℕ) (i : ℕ) : Type 0 where
+  pub so-far : (j : ℕ) → i ≤ j → j < junctionsOf s → AgreesBelow net s (junctionAt tables j)
 
-module _ {net s : List ℕ} (beside : FilesFit net s) {spots sizes order : List ℕ} (numbered : Numbered s spots sizes order) where
+module _ {net s : List ℕ} (beside : FilesFit net s) {tables : List ℕ} (numbered : Numbered s tables) where
   -- before the first
-  pub from-none : {n : ℕ} → n ≡ junctionsOf s → AgreedFrom net s order n
+  pub from-none : {n : ℕ} → n ≡ junctionsOf s → AgreedFrom net s tables n
   from-none n-is = record { so-far = λ j from to. absurd (omega arith) }
 
-  module _ {i : ℕ} {r : Bool} (agreed : AgreedFrom net s order i) (decides : Decides (AgreesBelow net s (getD order (i - 1) 0)) r) where
+  module _ {i : ℕ} {r : Bool} (agreed : AgreedFrom net s tables i) (decides : Decides (AgreesBelow net s (junctionAt tables (i - 1))) r) where
     -- after one that agrees
-    pub from-more : not r ≡ false → AgreedFrom net s order (i - 1)
+    pub from-more : not r ≡ false → AgreedFrom net s tables (i - 1)
     from-more passed = record { so-far = λ j from to. pick j from to (ℕ-discrete j (i - 1)) }
       where
-        pick : (j : ℕ) → i - 1 ≤ j → j < junctionsOf s → Dec (j ≡ i - 1) → AgreesBelow net s (getD order j 0)
+        pick : (j : ℕ) → i - 1 ≤ j → j < junctionsOf s → Dec (j ≡ i - 1) → AgreesBelow net s (junctionAt tables j)
         pick j from to (yes e) = rw e (decides .holds (not-false r passed))
         pick j from to (no apart) = agreed .so-far j (omega arith) to
 
@@ -106,10 +106,10 @@ module _ {net s : List ℕ} (beside : FilesFit net s) {spots sizes order : List 
         decides .fails (not-true r failed) (record { agrees = λ above. agreeing-is-right beside .1 right .agrees above }))
 
   -- after the last
-  pub from-all : {i : ℕ} → AgreedFrom net s order i → i ≤ 0 → Decides (EveryListRight net s) true
+  pub from-all : {i : ℕ} → AgreedFrom net s tables i → i ≤ 0 → Decides (EveryListRight net s) true
   from-all agreed over = decided-yes (agreeing-is-right beside .0 (record { agrees = λ {v} {u} above. each v u above }))
     where
       each : (v u : ℕ) → Above (parentsOf s) u v → Agrees net s v u
       each v u above =
           let on-map = above-at (beside .formed .parents) above .on-map in
-          (rw (numbered .at-spot u on-map) at (agreed .so-far (getD spots u 0) (omega arith) (numbered .spot-below u on-map))) .agrees above
+          (rw (numbered .at-spot u on-map) at (agreed .so-far (spotOf tables u) (omega arith) (numbered .spot-below u on-map))) .agrees above

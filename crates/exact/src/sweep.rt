@@ -1,15 +1,18 @@
 // The sweep over the labels. The junctions are taken from the last to the first of an order in which each one's descendants stand
 // right behind it. No list is searched for: each junction has a reading place, which moves on by one list for each ancestor swept.
 use agree::agree::list_agrees;
-use bytes::u16_at;
+use network::header::junctions_of;
 use forest::parents::parent_at;
-use preorder::number::number;
 use stored::place::Place;
 use stored::place::number_of;
+use tables::ORDER;
+use tables::SIZES;
+use tables::STARTS;
+use tables::entry_at;
 ghost use mathlib.Core.Path.{_≡_};
 ghost use mathlib.Core.Bool.{true};
 ghost use Prim.Native.Nat.{_+_, _≤_, _<_};
-ghost use lib.ListN.{length, getD};
+ghost use lib.ListN.{length};
 ghost use Rattle.paths.specs.LocalTest.{ListAgrees};
 ghost use Rattle.network.specs.NetworkFile.{junctionsOf, networkOf};
 ghost use Rattle.network.specs.working.Roads.{Grouped};
@@ -19,21 +22,21 @@ ghost use Rattle.forest.specs.working.Fits.{ParentsFit, DepthsFilled};
 ghost use Rattle.stored.specs.Stored.{stored};
 ghost use Rattle.stored.specs.working.Formed.{Formed, StartsFilled, FilesFit, Tables, ListFits};
 ghost use Rattle.stored.specs.Right.{EveryListRight};
-ghost use Rattle.preorder.specs.working.Numbered.{Numbered};
-ghost use Rattle.agree.specs.working.Agreeing.{PlacesFor, AgreeInput, Unmarked};
-ghost use Rattle.exact.specs.working.Sweep.{AgreesBelow, Swept, Noted, MovedOn, SweepInput, BlockOf};
+ghost use Rattle.preorder.specs.working.Numbered.{junctionAt};
+ghost use Rattle.agree.specs.working.Agreeing.{PlacesFor, Unmarked};
+ghost use Rattle.exact.specs.working.Sweep.{AgreesBelow, Swept, Noted, MovedOn, BlockOf};
 
 // Notes where the lists of u stand, each at the place of its ancestor. These are swept later, so nothing is lost.
 fn note_above(
     labels: &[u8],
     depths: &[u32; 1024],
-    starts: &[u32; 1024],
+    tables: &[u32; 13312],
     u: usize,
     places: &mut [u32; 1024],
 )
     requires { ⌜ Formed (now labels) ⌝ }
     requires { ⌜ DepthsFilled (now labels) (now depths) ⌝ }
-    requires { ⌜ StartsFilled (now labels) (now starts) ⌝ }
+    requires { ⌜ StartsFilled (now labels) (now tables) ⌝ }
     requires { ⌜ u < junctionsOf (now labels) ⌝ }
     requires { ⌜ length (now places) ≡ 1024 ⌝ }
     ensures { λ _. ⌜ Noted (now (labels .entry)) u (now (places .entry)) (now (places .exit)) ⌝ }
@@ -41,7 +44,7 @@ fn note_above(
     let mut k = number_of(depths, u);
     let mut w = u;
     let mut place = Place {
-        at: number_of(starts, u),
+        at: entry_at(tables, STARTS + u),
     };
     while k > 0 {
         let at = place.at;
@@ -55,21 +58,20 @@ fn note_above(
 // The junctions below u move on by one list, past those for u.
 fn move_on(
     labels: &[u8],
-    spots: &[u32; 1024],
-    order: &[u32; 1024],
+    tables: &[u32; 13312],
     u: usize,
     from: usize,
     to: usize,
     places: &mut [u32; 1024],
 )
     requires { ⌜ Formed (now labels) ⌝ }
-    requires { ⌜ BlockOf (now labels) (now spots) (now order) u from to ⌝ }
+    requires { ⌜ BlockOf (now labels) (now tables) u from to ⌝ }
     requires { ⌜ PlacesFor (now labels) u (now places) ⌝ }
-    ensures { λ _. ⌜ MovedOn (now (labels .entry)) (now (spots .entry)) from to (now (places .entry)) (now (places .exit)) ⌝ }
+    ensures { λ _. ⌜ MovedOn (now (labels .entry)) (now (tables .entry)) from to (now (places .entry)) (now (places .exit)) ⌝ }
 {
     let mut i = from;
     while i < to {
-        let v = number_of(order, i);
+        let v = entry_at(tables, ORDER + i);
         let here = number_of(places, v);
         let place = Place { at: here }.next(labels);
         let next = place.at;
@@ -82,18 +84,15 @@ fn move_on(
 fn lists_agree(
     net: &[u8],
     labels: &[u8],
-    heads: &[u32; 1024],
-    nexts: &[u32; 8192],
-    spots: &[u32; 1024],
-    order: &[u32; 1024],
+    tables: &[u32; 13312],
     places: &[u32; 1024],
     u: usize,
     from: usize,
     to: usize,
     marks: &mut [u8; 4096],
 ) -> bool
-    requires { ⌜ FilesFit (now net) (now labels) × Grouped (now net) (now heads) (now nexts) ⌝ }
-    requires { ⌜ BlockOf (now labels) (now spots) (now order) u from to ⌝ }
+    requires { ⌜ FilesFit (now net) (now labels) × Grouped (now net) (now tables) ⌝ }
+    requires { ⌜ BlockOf (now labels) (now tables) u from to ⌝ }
     requires { ⌜ PlacesFor (now labels) u (now places) ⌝ }
     requires { ⌜ Unmarked (now marks) ⌝ }
     ensures { λ r. ⌜ Decides (AgreesBelow (now (net .entry)) (now (labels .entry)) u) r ⌝ }
@@ -101,8 +100,8 @@ fn lists_agree(
 {
     let mut i = from;
     while i < to {
-        let v = number_of(order, i);
-        if !list_agrees(net, labels, heads, nexts, places, v, u, marks) {
+        let v = entry_at(tables, ORDER + i);
+        if !list_agrees(net, labels, tables, places, v, u, marks) {
             return false;
         }
         i += 1;
@@ -115,124 +114,54 @@ fn junction_agrees(
     net: &[u8],
     labels: &[u8],
     depths: &[u32; 1024],
-    starts: &[u32; 1024],
-    heads: &[u32; 1024],
-    nexts: &[u32; 8192],
-    spots: &[u32; 1024],
-    sizes: &[u32; 1024],
-    order: &[u32; 1024],
+    tables: &[u32; 13312],
     i: usize,
     places: &mut [u32; 1024],
     marks: &mut [u8; 4096],
 ) -> bool
-    requires { ⌜ SweepInput (now net) (now labels) (now depths) (now starts) (now heads) (now nexts) (now spots) (now sizes) (now order) ⌝ }
+    requires { ⌜ FilesFit (now net) (now labels) × Tables (now net) (now labels) (now depths) (now tables) ⌝ }
     requires { ⌜ i < junctionsOf (now labels) ⌝ }
-    requires { ⌜ Swept (now labels) (now spots) (i + 1) (now places) ⌝ }
+    requires { ⌜ Swept (now labels) (now tables) (i + 1) (now places) ⌝ }
     requires { ⌜ Unmarked (now marks) ⌝ }
-    ensures { λ r. ⌜ Decides (AgreesBelow (now (net .entry)) (now (labels .entry)) (getD (now (order .entry)) i 0)) r ⌝ }
-    ensures { λ r. ⌜ (r ≡ true → Swept (now (labels .entry)) (now (spots .entry)) i (now (places .exit)) × Unmarked (now (marks .exit))) ⌝ }
+    ensures { λ r. ⌜ Decides (AgreesBelow (now (net .entry)) (now (labels .entry)) (junctionAt (now (tables .entry)) i)) r ⌝ }
+    ensures { λ r. ⌜ (r ≡ true → Swept (now (labels .entry)) (now (tables .entry)) i (now (places .exit)) × Unmarked (now (marks .exit))) ⌝ }
 {
-    let u = number_of(order, i);
+    let u = entry_at(tables, ORDER + i);
     let from = i + 1;
-    let to = i + number_of(sizes, u);
-    places[u] = starts[u];
+    let to = i + entry_at(tables, SIZES + u);
+    places[u] = tables[STARTS + u];
     if from == to {
         return true;
     }
-    note_above(labels, depths, starts, u, places);
-    if !lists_agree(
-        net,
-        labels,
-        heads,
-        nexts,
-        spots,
-        order,
-        places,
-        u,
-        from,
-        to,
-        marks,
-    ) {
+    note_above(labels, depths, tables, u, places);
+    if !lists_agree(net, labels, tables, places, u, from, to, marks) {
         return false;
     }
-    move_on(labels, spots, order, u, from, to, places);
+    move_on(labels, tables, u, from, to, places);
     true
 }
 
-// Does every list agree? The junctions from the last spot to the first.
-fn sweep(
-    net: &[u8],
-    labels: &[u8],
-    depths: &[u32; 1024],
-    starts: &[u32; 1024],
-    heads: &[u32; 1024],
-    nexts: &[u32; 8192],
-    spots: &[u32; 1024],
-    sizes: &[u32; 1024],
-    order: &[u32; 1024],
-    places: &mut [u32; 1024],
-    marks: &mut [u8; 4096],
-) -> bool
-    requires { ⌜ SweepInput (now net) (now labels) (now depths) (now starts) (now heads) (now nexts) (now spots) (now sizes) (now order) ⌝ }
-    requires { ⌜ length (now places) ≡ 1024 ⌝ }
-    requires { ⌜ Unmarked (now marks) ⌝ }
-    ensures { λ r. ⌜ Decides (EveryListRight (now (net .entry)) (now (labels .entry))) r ⌝ }
-{
-    let mut i = u16_at(labels, 6) as usize;
-    while i > 0 {
-        i -= 1;
-        if !junction_agrees(
-            net,
-            labels,
-            depths,
-            starts,
-            heads,
-            nexts,
-            spots,
-            sizes,
-            order,
-            i,
-            places,
-            marks,
-        ) {
-            return false;
-        }
-    }
-    true
-}
-
-// Is every stored list the trade-off list of its two junctions? Reading places and marks are lent by the caller.
+// Is every stored list the trade-off list of its two junctions? The junctions from the last spot to the first. Reading places and marks are lent
+// by the caller.
 pub fn exact(
     net: &[u8],
     labels: &[u8],
     depths: &[u32; 1024],
-    starts: &[u32; 1024],
-    heads: &[u32; 1024],
-    nexts: &[u32; 8192],
+    tables: &[u32; 13312],
     places: &mut [u32; 1024],
     marks: &mut [u8; 4096],
 ) -> bool
-    requires { ⌜ FilesFit (now net) (now labels) ⌝ }
-    requires { ⌜ Tables (now net) (now labels) (now depths) (now starts) (now heads) (now nexts) ⌝ }
+    requires { ⌜ FilesFit (now net) (now labels) × Tables (now net) (now labels) (now depths) (now tables) ⌝ }
     requires { ⌜ length (now places) ≡ 1024 ⌝ }
     requires { ⌜ Unmarked (now marks) ⌝ }
     ensures { λ r. ⌜ Decides (EveryListRight (now (net .entry)) (now (labels .entry))) r ⌝ }
 {
-    let mut spots: [u32; 1024] = [0; 1024];
-    let mut sizes: [u32; 1024] = [0; 1024];
-    let mut order: [u32; 1024] = [0; 1024];
-    number(labels, depths, &mut spots, &mut sizes, &mut order);
-    sweep(
-        net,
-        labels,
-        depths,
-        starts,
-        heads,
-        nexts,
-        &spots,
-        &sizes,
-        &order,
-        places,
-        marks,
-    )
+    let mut i = junctions_of(labels) as usize;
+    while i > 0 {
+        i -= 1;
+        if !junction_agrees(net, labels, depths, tables, i, places, marks) {
+            return false;
+        }
+    }
+    true
 }

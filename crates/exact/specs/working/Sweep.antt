@@ -6,13 +6,12 @@ use Prim.Native.Nat.{ℕ, _+_, _-_, _≤_, _<_}
 use lib.ListN.{length, getD}
 use Rattle.paths.specs.Forest.{Above, Ancestor}
 use Rattle.paths.specs.LocalTest.{ListAgrees}
+use Rattle.tables.specs.working.Layout.{tablePlaces}
 use Rattle.network.specs.NetworkFile.{networkOf, junctionsOf}
 use Rattle.forest.specs.LabelFile.{parentsOf, listEnd}
 use Rattle.forest.specs.Forest.{depthOf}
 use Rattle.stored.specs.Stored.{listsBefore, placeOf, listPlace, stored}
-use Rattle.stored.specs.working.Formed.{FilesFit, Tables}
-use Rattle.preorder.specs.working.Numbered.{Numbered}
-use Rattle.agree.specs.working.Agreeing.{AgreeInput, PlacesFor}
+use Rattle.preorder.specs.working.Numbered.{junctionAt, spotOf}
 
 -- ---- What is tested
 
@@ -28,11 +27,11 @@ pub record AgreesBelow (net s : List ℕ) (u : ℕ) : Type 0 where
 
 -- The junctions from spot i on are swept: of each the reading place is behind its lists for those of its ancestors that are swept.
 -- c is the topmost of these, or the junction itself
-pub record Swept (s spots : List ℕ) (i : ℕ) (places : List ℕ) : Type 0 where
+pub record Swept (s tables : List ℕ) (i : ℕ) (places : List ℕ) : Type 0 where
   pub places-length : length places ≡ 1024
   pub stands :
-      (v c : ℕ) → v < junctionsOf s → Ancestor (parentsOf s) c v → i ≤ getD spots c 0 →
-      ((p : ℕ) → Above (parentsOf s) p c → getD spots p 0 < i) →
+      (v c : ℕ) → v < junctionsOf s → Ancestor (parentsOf s) c v → i ≤ spotOf tables c →
+      ((p : ℕ) → Above (parentsOf s) p c → spotOf tables p < i) →
       getD places v 0 ≡ placeOf s (listsBefore s v + (depthOf s v - depthOf s c))
 
 -- The bytes of u's own lists stand at its ancestors, every other reading place is as before
@@ -42,28 +41,22 @@ pub record Noted (s : List ℕ) (u : ℕ) (before after : List ℕ) : Type 0 whe
   pub others : (w : ℕ) → (Above (parentsOf s) w u → ⊥) → getD after w 0 ≡ getD before w 0
 
 -- The reading places of the junctions from spot `from` to below `to` have moved on by one list, no other has
-pub record MovedOn (s spots : List ℕ) (from to : ℕ) (before after : List ℕ) : Type 0 where
+pub record MovedOn (s tables : List ℕ) (from to : ℕ) (before after : List ℕ) : Type 0 where
   pub one-length : length after ≡ 1024
   pub moved :
-      (v : ℕ) → v < junctionsOf s → from ≤ getD spots v 0 → getD spots v 0 < to → getD after v 0 ≡ listEnd s (getD before v 0)
+      (v : ℕ) → v < junctionsOf s → from ≤ spotOf tables v → spotOf tables v < to → getD after v 0 ≡ listEnd s (getD before v 0)
   pub unmoved :
-      (v : ℕ) → v < junctionsOf s → (from ≤ getD spots v 0 → getD spots v 0 < to → ⊥) → getD after v 0 ≡ getD before v 0
+      (v : ℕ) → v < junctionsOf s → (from ≤ spotOf tables v → spotOf tables v < to → ⊥) → getD after v 0 ≡ getD before v 0
 
 -- ---- What the functions of the sweep stand on
 
--- Both files in form, the tables of the call, and the order of the junctions
-pub record SweepInput (net s depths starts heads nexts spots sizes order : List ℕ) : Type 0 where
-  pub beside : FilesFit net s
-  pub tables : Tables net s depths starts heads nexts
-  pub numbered : Numbered s spots sizes order
-
 -- The junctions from spot `from` to below `to` are those below u
-pub record BlockOf (s spots order : List ℕ) (u from to : ℕ) : Type 0 where
-  pub order-places : length order ≡ 1024
+pub record BlockOf (s tables : List ℕ) (u from to : ℕ) : Type 0 where
+  pub places : length tables ≡ tablePlaces
   pub on-map : u < junctionsOf s
   pub inside : to ≤ junctionsOf s
   pub forward : from ≤ to
-  pub at-spot : (v : ℕ) → v < junctionsOf s → getD order (getD spots v 0) 0 ≡ v
-  pub spot-of : (i : ℕ) → from ≤ i → i < to → getD spots (getD order i 0) 0 ≡ i
-  pub below : (i : ℕ) → from ≤ i → i < to → Above (parentsOf s) u (getD order i 0)
-  pub all : (v : ℕ) → Above (parentsOf s) u v → (from ≤ getD spots v 0) × (getD spots v 0 < to)
+  pub at-spot : (v : ℕ) → v < junctionsOf s → junctionAt tables (spotOf tables v) ≡ v
+  pub spot-of : (i : ℕ) → from ≤ i → i < to → spotOf tables (junctionAt tables i) ≡ i
+  pub below : (i : ℕ) → from ≤ i → i < to → Above (parentsOf s) u (junctionAt tables i)
+  pub all : (v : ℕ) → Above (parentsOf s) u v → (from ≤ spotOf tables v) × (spotOf tables v < to)

@@ -7,31 +7,34 @@ use Rattle.exact.proofs.sweep.move_on.Statement.{statement}
 use Rattle.exact.proofs.sweep.move_on.Tie as tie
 
 abbrev Inv-loop : tie.InvT-loop
-Inv-loop labels spots order u from to places₀ i₀ places i =
-    (i ≤ to) × Moving labels spots from i places₀ places
+Inv-loop labels tables u from to places₀ i₀ places i =
+    (i ≤ to) × Moving labels tables from i places₀ places
 
 abbrev μ-loop : tie.MeasureT-loop
-μ-loop labels spots order u from to places₀ i₀ places i = to - i
+μ-loop labels tables u from to places₀ i₀ places i = to - i
 
 loop-holds : tie.Need-loop-holds Inv-loop μ-loop
 loop-holds c = (c .before .pre .1 .0 .forward, moving-none (c .before .pre .1 .1 .places-length))
 
-number-of-requires : tie.Need-number-of-requires Inv-loop μ-loop
-number-of-requires c κs = search needs
+add-entry-at : tie.Need-add-entry-at Inv-loop μ-loop
+add-entry-at c = search needs
 
-number-of-requires-2 : tie.Need-number-of-requires-2 Inv-loop μ-loop
-number-of-requires-2 c κs =
+entry-at-requires : tie.Need-entry-at-requires Inv-loop μ-loop
+entry-at-requires c κs = search needs
+
+number-of-requires : tie.Need-number-of-requires Inv-loop μ-loop
+number-of-requires c κs =
     let pre = c .before .before .before .before .before .pre in
     omega (
       arith,
-      here-on-map (pre .0) (pre .1 .0) (pre .1 .1) (c .before .before .before .loop .inv .1) (c .before .before .loop-test .taken) (c .before .number-of .ensures),
+      here-on-map (pre .0) (pre .1 .0) (pre .1 .1) (c .before .before .before .loop .inv .1) (c .before .before .loop-test .taken) (c .before .entry-at .ensures),
       pre .0 .parents .few-junctions,
     )
 
 next-requires : tie.Need-next-requires Inv-loop μ-loop
 next-requires c κs =
     let pre = c .before .before .before .before .before .before .pre in (
-      place-inside (pre .0) (pre .1 .0) (pre .1 .1) (c .before .before .before .before .loop .inv .1) (c .before .before .before .loop-test .taken) (c .before .before .number-of .ensures) (c .number-of2 .ensures),
+      place-inside (pre .0) (pre .1 .0) (pre .1 .1) (c .before .before .before .before .loop .inv .1) (c .before .before .before .loop-test .taken) (c .before .before .entry-at .ensures) (c .number-of .ensures),
       pre .0 .few-bytes,
     )
 
@@ -40,7 +43,7 @@ cast-places c =
     let pre = c .before .before .before .before .before .before .before .pre in
     omega (
       arith,
-      next-inside (pre .0) (pre .1 .0) (pre .1 .1) (c .before .before .before .before .before .loop .inv .1) (c .before .before .before .before .loop-test .taken) (c .before .before .before .number-of .ensures) (c .before .number-of2 .ensures) (c .next .ensures),
+      next-inside (pre .0) (pre .1 .0) (pre .1 .1) (c .before .before .before .before .before .loop .inv .1) (c .before .before .before .before .loop-test .taken) (c .before .before .before .entry-at .ensures) (c .before .number-of .ensures) (c .next .ensures),
       pre .0 .few-bytes,
     )
 
@@ -49,7 +52,7 @@ mul-places c =
     let pre = c .before .before .before .before .before .before .before .pre in
     omega (
       arith,
-      here-on-map (pre .0) (pre .1 .0) (pre .1 .1) (c .before .before .before .before .before .loop .inv .1) (c .before .before .before .before .loop-test .taken) (c .before .before .before .number-of .ensures),
+      here-on-map (pre .0) (pre .1 .0) (pre .1 .1) (c .before .before .before .before .before .loop .inv .1) (c .before .before .before .before .loop-test .taken) (c .before .before .before .entry-at .ensures),
       pre .0 .parents .few-junctions,
     )
 
@@ -58,7 +61,7 @@ element-write-places c =
     let pre = c .before .before .before .before .before .before .before .pre in
     omega (
       arith,
-      here-on-map (pre .0) (pre .1 .0) (pre .1 .1) (c .before .before .before .before .before .loop .inv .1) (c .before .before .before .before .loop-test .taken) (c .before .before .before .number-of .ensures),
+      here-on-map (pre .0) (pre .1 .0) (pre .1 .1) (c .before .before .before .before .before .loop .inv .1) (c .before .before .before .before .loop-test .taken) (c .before .before .before .entry-at .ensures),
       pre .0 .parents .few-junctions,
     )
 
@@ -72,7 +75,7 @@ loop-again : tie.Need-loop-again Inv-loop μ-loop
 loop-again c =
     let pre = c .before .before .before .before .before .before .before .pre in (
       omega arith,
-      moving-more (pre .0) (pre .1 .0) (pre .1 .1) (c .before .before .before .before .before .loop .inv .1) (c .before .before .before .before .loop-test .taken) (c .before .before .before .number-of .ensures) (c .before .number-of2 .ensures) (c .next .ensures),
+      moving-more (pre .0) (pre .1 .0) (pre .1 .1) (c .before .before .before .before .before .loop .inv .1) (c .before .before .before .before .loop-test .taken) (c .before .before .before .entry-at .ensures) (c .before .number-of .ensures) (c .next .ensures),
     )
 
 returns : tie.Need-returns Inv-loop μ-loop
@@ -85,8 +88,9 @@ move-on-spec =
     Inv-loop
     μ-loop
     loop-holds
+    add-entry-at
+    entry-at-requires
     number-of-requires
-    number-of-requires-2
     next-requires
     cast-places
     mul-places

@@ -6,17 +6,20 @@ use Rattle.exact.proofs.sweep.note_above.Statement.{statement}
 use Rattle.exact.proofs.sweep.note_above.Tie as tie
 
 abbrev Inv-loop : tie.InvT-loop
-Inv-loop labels depths starts u places₀ k₀ w₀ place₀ places k w place =
+Inv-loop labels depths tables u places₀ k₀ w₀ place₀ places k w place =
     Noting labels u k w (place .at) places₀ places
 
 abbrev μ-loop : tie.MeasureT-loop
-μ-loop labels depths starts u places₀ k₀ w₀ place₀ places k w place = k
+μ-loop labels depths tables u places₀ k₀ w₀ place₀ places k w place = k
 
 number-of-requires : tie.Need-number-of-requires Inv-loop μ-loop
 number-of-requires c κs = search needs
 
-number-of-requires-2 : tie.Need-number-of-requires-2 Inv-loop μ-loop
-number-of-requires-2 c κs = search needs
+add-entry-at : tie.Need-add-entry-at Inv-loop μ-loop
+add-entry-at c = search needs
+
+entry-at-requires : tie.Need-entry-at-requires Inv-loop μ-loop
+entry-at-requires c κs = search needs
 
 loop-holds : tie.Need-loop-holds Inv-loop μ-loop
 loop-holds c = search (noting-none, needs)
@@ -66,7 +69,8 @@ note-above-spec =
     Inv-loop
     μ-loop
     number-of-requires
-    number-of-requires-2
+    add-entry-at
+    entry-at-requires
     loop-holds
     sub-k
     parent-at-requires
