@@ -40,12 +40,12 @@ pub all-filled :
 all-filled fit depths-filled starts roads starts-kept numbered roads-kept =
     record {
       depths-filled = depths-filled;
-      starts-filled = starts-stay few (stays-lower (omega arith) roads-kept) (starts-stay few starts-kept starts);
+      starts-filled =
+          starts-stay (fit .formed .parents .few-junctions) (stays-lower (omega arith) roads-kept)
+          (starts-stay (fit .formed .parents .few-junctions) starts-kept starts);
       grouped = grouped-stays (fit .network) roads-kept roads;
       numbered = numbered;
     }
-  where
-    few = fit .formed .parents .few-junctions
 
 module _ {net labels depths tables : List ℕ} where
   pub network-refuses :
@@ -73,14 +73,14 @@ module _
     (passes : r ≡ 0)
     (filled : Tables net labels depths tables)
   where
-  accepting : {answer : ℕ} → Checked net labels answer → Accepting net labels answer depths tables
-  accepting checked =
-      record { checked = checked; filled = λ z. filled; depths-length = form .read .depth-places; tables-length = filled .grouped .places }
+    accepting : {answer : ℕ} → Checked net labels answer → Accepting net labels answer depths tables
+    accepting checked =
+        record { checked = checked; filled = λ z. filled; depths-length = form .read .depth-places; tables-length = filled .grouped .places }
 
-  pub all-right : {b : Bool} → Decides (EveryListRight net labels) b → b ≡ true → Accepting net labels 0 depths tables
-  all-right decides yes-right =
-      accepting (accepted (sym is ∙ none) (sym (form .read .number) ∙ passes) (decides .holds yes-right) refl)
+    pub all-right : {b : Bool} → Decides (EveryListRight net labels) b → b ≡ true → Accepting net labels 0 depths tables
+    all-right decides yes-right =
+        accepting (accepted (sym is ∙ none) (sym (form .read .number) ∙ passes) (decides .holds yes-right) refl)
 
-  pub some-wrong : {b : Bool} → Decides (EveryListRight net labels) b → b ≡ false → Accepting net labels 18 depths tables
-  some-wrong decides wrong =
-      accepting (list-wrong (sym is ∙ none) (sym (form .read .number) ∙ passes) (decides .fails wrong) refl)
+    pub some-wrong : {b : Bool} → Decides (EveryListRight net labels) b → b ≡ false → Accepting net labels 18 depths tables
+    some-wrong decides wrong =
+        accepting (list-wrong (sym is ∙ none) (sym (form .read .number) ∙ passes) (decides .fails wrong) refl)

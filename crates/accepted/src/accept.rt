@@ -23,12 +23,7 @@ fn fill_tables(net: &[u8], labels: &[u8], depths: &[u32; 1024], tables: &mut [u3
 }
 
 // The number of the check; at 0 the tables are filled.
-pub fn accept(
-    net: &[u8],
-    labels: &[u8],
-    depths: &mut [u32; 1024],
-    tables: &mut [u32; 13312],
-) -> u32
+pub fn accept(net: &[u8], labels: &[u8], depths: &mut [u32; 1024], tables: &mut [u32; 13312]) -> u32
     requires { ⌜ (length (now depths) ≡ 1024) × (length (now tables) ≡ tablePlaces) ⌝ }
     ensures { λ r. ⌜ Accepting (now (net .entry)) (now (labels .entry)) r (now (depths .exit)) (now (tables .exit)) ⌝ }
 {

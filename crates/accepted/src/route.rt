@@ -12,6 +12,7 @@ ghost use lib.ListN.{length};
 ghost use Rattle.paths.specs.Weights.{pair};
 ghost use Rattle.paths.specs.TradeOff.{Skyline};
 ghost use Rattle.network.specs.NetworkFile.{networkOf, junctionsOf};
+ghost use Rattle.network.specs.working.Roads.{Grouped};
 ghost use Rattle.query.specs.working.Prepared.{Prepared};
 ghost use Rattle.accepted.specs.Route.{RouteAnswered};
 ghost use Rattle.accepted.specs.RouteAnswers.{routeNumberOf, routeTimeOf, routeEnergyOf, routeCountOf};
@@ -31,6 +32,7 @@ fn put_route(
     marks: &mut [u8; 1024],
 ) -> RouteAnswer
     requires { ⌜ Prepared (now net) (now labels) (now depths) (now tables) ⌝ }
+    requires { ⌜ Grouped (now net) (now tables) ⌝ }
     requires { ⌜ (s < junctionsOf (now net)) × (t < junctionsOf (now net)) ⌝ }
     requires { ⌜ Skyline (networkOf (now net)) s t (pair (time .0) (energy .0)) ⌝ }
     requires { ⌜ length (now marks) ≡ 1024 ⌝ }
@@ -71,6 +73,7 @@ pub fn answer_route(
     marks: &mut [u8; 1024],
 ) -> RouteAnswer
     requires { ⌜ Prepared (now net) (now labels) (now depths) (now tables) ⌝ }
+    requires { ⌜ Grouped (now net) (now tables) ⌝ }
     requires { ⌜ length (now marks) ≡ 1024 ⌝ }
     ensures { λ r.
         ⌜ RouteAnswered (now (net .entry)) s t limit (now (junctions .entry))

@@ -1,8 +1,8 @@
 // The sweep over the labels. The junctions are taken from the last to the first of an order in which each one's descendants stand
 // right behind it. No list is searched for: each junction has a reading place, which moves on by one list for each ancestor swept.
 use agree::agree::list_agrees;
-use network::header::junctions_of;
 use forest::parents::parent_at;
+use network::header::junctions_of;
 use stored::place::Place;
 use stored::place::number_of;
 use tables::ORDER;

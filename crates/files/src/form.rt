@@ -118,7 +118,11 @@ fn lists_form(labels: &[u8], depths: &[u32; 1024], tables: &mut [u32; 13312]) ->
 }
 
 // 11 to 15 or 17 for labels alone, or 0; at 0 both tables are filled.
-pub fn labels_number_alone(labels: &[u8], depths: &mut [u32; 1024], tables: &mut [u32; 13312]) -> u32
+pub fn labels_number_alone(
+    labels: &[u8],
+    depths: &mut [u32; 1024],
+    tables: &mut [u32; 13312],
+) -> u32
     requires { ⌜ length (now depths) ≡ 1024 ⌝ }
     requires { ⌜ length (now tables) ≡ tablePlaces ⌝ }
     ensures { λ r. ⌜ LabelsNumberedAlone (now (labels .entry)) (now (depths .exit)) (now (tables .exit)) r ⌝ }

@@ -28,12 +28,7 @@ pub fn check(net: &[u8], labels: &[u8]) -> u32
 {
     let mut depths: [u32; 1024] = [0; 1024];
     let mut tables: [u32; 13312] = [0; 13312];
-    accept(
-        net,
-        labels,
-        &mut depths,
-        &mut tables,
-    )
+    accept(net, labels, &mut depths, &mut tables)
 }
 
 // Batch: triples s, t, limit in; for each a triple number, time, energy. A triple's 21, 22 or 23 refuses it alone. The call's own
@@ -54,12 +49,7 @@ pub fn batch(net: &[u8], labels: &[u8], queries: &[u32], answers: &mut [u32]) ->
     if answers.len() != length {
         return 32;
     }
-    let number = accept(
-        net,
-        labels,
-        &mut depths,
-        &mut tables,
-    );
+    let number = accept(net, labels, &mut depths, &mut tables);
     if number != 0 {
         return number;
     }
@@ -84,12 +74,7 @@ pub fn route(
     let mut depths: [u32; 1024] = [0; 1024];
     let mut tables: [u32; 13312] = [0; 13312];
     let mut marks: [u8; 1024] = [0; 1024];
-    let number = accept(
-        net,
-        labels,
-        &mut depths,
-        &mut tables,
-    );
+    let number = accept(net, labels, &mut depths, &mut tables);
     if number != 0 {
         return RouteAnswer::NotAccepted(number);
     }
@@ -122,12 +107,7 @@ pub fn list(
 {
     let mut depths: [u32; 1024] = [0; 1024];
     let mut tables: [u32; 13312] = [0; 13312];
-    let number = accept(
-        net,
-        labels,
-        &mut depths,
-        &mut tables,
-    );
+    let number = accept(net, labels, &mut depths, &mut tables);
     if number != 0 {
         return ListAnswer::NotAccepted(number);
     }

@@ -21,6 +21,7 @@ ghost use Rattle.paths.specs.TradeOff.{Skyline, IsTradeOff};
 ghost use Rattle.network.specs.NetworkFile.{junctionsOf, networkOf};
 ghost use Rattle.lists.specs.Entries.{Weight};
 ghost use Rattle.joins.specs.Answers.{Join, LimitedJoin};
+ghost use Rattle.network.specs.working.Roads.{Grouped};
 ghost use Rattle.query.specs.working.Prepared.{Prepared};
 ghost use Rattle.routes.specs.working.Written.{RouteFound, ListWritten};
 ghost use Rattle.accepted.specs.Check.{Checked};
@@ -207,6 +208,7 @@ pub extern "C" fn measured_route(
     marks: &mut [u8; 1024],
 ) -> usize
     requires { ⌜ Prepared (now net) (now labels) (now depths) (now tables) ⌝ }
+    requires { ⌜ Grouped (now net) (now tables) ⌝ }
     requires { ⌜ (s < junctionsOf (now net)) × (t < junctionsOf (now net)) ⌝ }
     requires { ⌜ Skyline (networkOf (now net)) s t (pair time units) ⌝ }
     requires { ⌜ (length (now junctions) ≡ 1024) × (length (now marks) ≡ 1024) ⌝ }

@@ -1,8 +1,8 @@
 // Whether a path takes no more than a pair in either figure: what the route's step asks. Stored lists are read where they stand.
 use super::climb::Met;
 use super::climb::meet;
-use hoplinks::hoplinks::mark_hoplinks;
 use bytes::u16_at;
+use hoplinks::hoplinks::mark_hoplinks;
 use paths::energy::Energy;
 use paths::seconds::Seconds;
 use stored::place::Place;

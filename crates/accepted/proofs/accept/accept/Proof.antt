@@ -2,46 +2,53 @@
 use mathlib.Core.Path.{refl}
 use lib.ListN.{getD-replicate}
 use borrow.Author.Needs.{needs}
-use Rattle.accepted.proofs.Accepts.{form-passes, network-refuses, network-passes, labels-refuse, tables-filled, all-right, some-wrong}
+use Rattle.accepted.proofs.Accepts.{serves-one, network-refuses, network-passes, labels-refuse, all-right, some-wrong}
 use Rattle.accepted.proofs.accept.accept.Statement.{statement}
 use Rattle.accepted.proofs.accept.accept.Tie as tie
+
+version-one-requires : tie.Need-version-one-requires
+version-one-requires c κs = search needs
 
 net-number-requires : tie.Need-net-number-requires
 net-number-requires c κs = search needs
 
 returns : tie.Need-returns
-returns c = search (network-refuses)
+returns c = search (network-refuses, serves-one)
 
 labels-number-requires : tie.Need-labels-number-requires
-labels-number-requires c κs = search (network-passes)
+labels-number-requires c κs = search (network-passes, serves-one)
 
 returns-2 : tie.Need-returns-2
-returns-2 c = search (labels-refuse)
+returns-2 c = search (labels-refuse, serves-one)
 
-group-roads-requires : tie.Need-group-roads-requires
-group-roads-requires c κs = search (network-passes)
+fill-tables-requires : tie.Need-fill-tables-requires
+fill-tables-requires c κs =
+    let told = c .before .before in
+    let form = told .before .labels-number .ensures in
+    (form .fit (told .if2 .left), form .read .depths-filled (told .if2 .left), form .read .starts-filled (told .if2 .left))
 
 exact-requires : tie.Need-exact-requires
-exact-requires c κs = (
-  search (form-passes),
-  (tables-filled (c .before .before .before .before .before .before .before .before .before .before .labels-number .ensures) (c .before .before .before .before .before .before .before .before .before .if2 .left) (c .before .before .before .before .before .before .group-roads .ensures), (refl, record { marks-places = refl; each = λ i below. getD-replicate 4096 i 0 0 below })),
-)
+exact-requires c κs =
+    let filled = c .before .before .before .before in
+    let told = filled .before .before .before in
+    ((told .before .labels-number .ensures .fit (told .if2 .left), filled .fill-tables .ensures), (refl, record { marks-places = refl; each = λ i below. getD-replicate 4096 i 0 0 below }))
 
 returns-3 : tie.Need-returns-3
-returns-3 c = search (all-right)
+returns-3 c = search (all-right, serves-one)
 
 returns-4 : tie.Need-returns-4
-returns-4 c = search (some-wrong)
+returns-4 c = search (some-wrong, serves-one)
 
 pub accept-spec : {M : Type 1} → statement M
 accept-spec =
     tie.close
     (tie.spec
+    version-one-requires
     net-number-requires
     returns
     labels-number-requires
     returns-2
-    group-roads-requires
+    fill-tables-requires
     exact-requires
     returns-3
     returns-4)

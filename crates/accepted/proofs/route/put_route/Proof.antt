@@ -13,8 +13,8 @@ returns c = search (route-too-long)
 fill-first-requires : tie.Need-fill-first-requires
 fill-first-requires c κs = search needs
 
-cast-t23 : tie.Need-cast-t23
-cast-t23 c = search needs
+cast-t21 : tie.Need-cast-t21
+cast-t21 c = search needs
 
 same-length : tie.Need-same-length
 same-length c = search needs
@@ -24,4 +24,4 @@ returns-2 c = search (route-put)
 
 pub put-route-spec : {M : Type 1} → statement M
 put-route-spec =
-    tie.close (tie.spec route-requires returns fill-first-requires cast-t23 same-length returns-2)
+    tie.close (tie.spec route-requires returns fill-first-requires cast-t21 same-length returns-2)
