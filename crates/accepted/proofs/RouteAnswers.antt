@@ -15,7 +15,7 @@ use Rattle.query.specs.declared.Answer.the-variants as case
 use Rattle.query.specs.Answers.{Answers}
 use Rattle.query.specs.working.AnswerValues.{numberOf, timeOf, energyOf}
 use Rattle.routes.specs.working.Written.{RouteFound}
-use Rattle.accepted.specs.Route.{RouteRefused, RouteAnswered, no-answer, no-room, routed}
+use Rattle.accepted.specs.Route.{RouteAnswered, no-answer, no-room, routed}
 use Rattle.accepted.specs.working.RoutePut.{RoutePut, too-long, put}
 use Rattle.accepted.proofs.FoundPair.{found-zero}
 

@@ -56,19 +56,19 @@ module _ {net labels queries before : List ℕ} where
 
   module _ (h : length queries % 3 ≡ 0) (k : length queries ≤ 3072) (e : length before ≡ length queries) where
     pub done-not-accepted :
-        {depths starts heads nexts : List ℕ} {number : ℕ} → Accepting net labels number depths starts heads nexts → (number ≡ 0 → ⊥) → BatchDone net labels queries before number before
+        {depths tables : List ℕ} {number : ℕ} → Accepting net labels number depths tables → (number ≡ 0 → ⊥) → BatchDone net labels queries before number before
     done-not-accepted accepting some = not-accepted (shaped queries before h k e) (accepting .checked) some refl
 
     pub done-answered :
-        {depths starts heads nexts after : List ℕ} {number : ℕ} →
-        Accepting net labels number depths starts heads nexts → number ≡ 0 →
+        {depths tables after : List ℕ} {number : ℕ} →
+        Accepting net labels number depths tables → number ≡ 0 →
         AnsweredTo net queries before after (length queries / 3) → BatchDone net labels queries before 0 after
     done-answered accepting none all =
         answered (shaped queries before h k e) (check-passed accepting none) refl (all .one-length) (λ i below. all .answered i (omega arith))
 
 -- ---- Route and Trade-off list
 
-module _ {net labels depths starts heads nexts : List ℕ} {number : ℕ} (accepting : Accepting net labels number depths starts heads nexts) where
+module _ {net labels depths tables : List ℕ} {number : ℕ} (accepting : Accepting net labels number depths tables) where
   pub route-not-accepted : {before : List ℕ} {s t limit : ℕ} → (number ≡ 0 → ⊥) → Routed net labels s t limit before number 0 0 0 before
   route-not-accepted some =
       Routed.not-accepted (accepting .checked) some

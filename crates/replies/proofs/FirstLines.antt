@@ -12,9 +12,9 @@ use Rattle.accepted.proofs.Accepted.{ready-for-queries}
 use Rattle.replies.specs.Lines.{headingLine, refusedLine}
 use Rattle.replies.specs.working.Buffer.{Put, Ready, Places, FirstLine}
 
-module _ {net s depths starts heads nexts : List ℕ} {number : ℕ} (accepting : Accepting net s number depths starts heads nexts) where
+module _ {net s depths tables : List ℕ} {number : ℕ} (accepting : Accepting net s number depths tables) where
   -- what queries stand on
-  pub ready : number ≡ 0 → Ready net s depths starts heads nexts
+  pub ready : number ≡ 0 → Ready net s depths tables
   ready zero = record { prepared = ready-for-queries accepting zero; grouped = accepting .tables zero .grouped }
 
   -- both headers are there
@@ -26,7 +26,7 @@ module _ {net s depths starts heads nexts : List ℕ} {number : ℕ} (accepting 
 
   pub first-refused :
       {before after : List ℕ} {end : ℕ} → (number ≡ 0 → ⊥) → length before ≡ 65536 → Put before 0 (refusedLine number) 64 after end →
-      FirstLine net s depths starts heads nexts after number end
+      FirstLine net s depths tables after number end
   first-refused some long line =
       record {
         accepting = accepting;
@@ -39,7 +39,7 @@ module _ {net s depths starts heads nexts : List ℕ} {number : ℕ} (accepting 
   pub first-heading :
       {before after : List ℕ} {end junctions roads entries : ℕ} → number ≡ 0 → length before ≡ 65536 →
       Read16 (junctionsOf net) junctions → roads ≡ roadsOf net → entries ≡ u32At s 8 → Put before 0 (headingLine junctions roads entries) 64 after end →
-      FirstLine net s depths starts heads nexts after 0 end
+      FirstLine net s depths tables after 0 end
   first-heading zero long read e f line =
       record {
         accepting = rw zero at accepting;

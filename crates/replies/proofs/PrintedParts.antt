@@ -19,7 +19,7 @@ pub buffer-then :
     Replies net input 0 end (written ++ take used out)
 buffer-then so-far filled = replies-then so-far (filled .replies)
 
-module _ {net s input depths starts heads nexts out : List ℕ} {number used : ℕ} (first : FirstLine net s depths starts heads nexts out number used) where
+module _ {net s input depths tables out : List ℕ} {number used : ℕ} (first : FirstLine net s depths tables out number used) where
   -- a refusal is all that is printed
   pub refused-printed : (number ≡ 0 → ⊥) → Printed net s input (take used out)
   refused-printed some = printed.refused (first .accepting .checked) some (first .refusal some)

@@ -32,7 +32,7 @@ returns-5 : tie.Need-returns-5
 returns-5 c =
     let answered = c .before .before in
     let passed = answered .before .before .before .before in
-    let shaped = passed .before .before .before .before .before .before in
+    let shaped = passed .before .before .before .before in
     done-answered (shaped .before .before .if1 .left) (shaped .before .if2 .left) (shaped .if3 .left) (passed .before .accept .ensures) (passed .if4 .left) (answered .answer-all .ensures)
 
 pub batch-spec : {M : Type 1} → statement M

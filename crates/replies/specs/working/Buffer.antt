@@ -43,9 +43,9 @@ pub record QueryReplied (net : List ℕ) (s t C : ℕ) (before : List ℕ) (at :
   pub short : length bytes ≤ 11344
 
 -- An accepted set with the tables of one check
-pub record Ready (net labels depths starts heads nexts : List ℕ) : Type 0 where
-  pub prepared : Prepared net labels depths starts
-  pub grouped : Grouped net heads nexts
+pub record Ready (net labels depths tables : List ℕ) : Type 0 where
+  pub prepared : Prepared net labels depths tables
+  pub grouped : Grouped net tables
 
 -- The places lent to every reply
 pub record Places (junctions marks : List ℕ) : Type 0 where
@@ -59,8 +59,8 @@ pub record FilledTo (net input : List ℕ) (from : ℕ) (out : List ℕ) (next u
   pub onward : from < length input → from < next
 
 -- The check's outcome and the first line: the heading of an accepted set, or the refusal
-pub record FirstLine (net s : List ℕ) (depths starts heads nexts out : List ℕ) (number used : ℕ) : Type 0 where
-  pub accepting : Accepting net s number depths starts heads nexts
+pub record FirstLine (net s : List ℕ) (depths tables out : List ℕ) (number used : ℕ) : Type 0 where
+  pub accepting : Accepting net s number depths tables
   pub heading : number ≡ 0 → take used out ≡ headingLine (junctionsOf net) (roadsOf net) (entriesOf s)
   pub refusal : (number ≡ 0 → ⊥) → take used out ≡ refusedLine number
   pub inside : used ≤ length out

@@ -9,11 +9,11 @@ use Rattle.replies.proofs.fill.fill.Statement.{statement}
 use Rattle.replies.proofs.fill.fill.Tie as tie
 
 abbrev Inv-loop : tie.InvT-loop
-Inv-loop net labels depths starts heads nexts input from out₀ junctions₀ marks₀ next₀ used₀ out junctions marks next used =
+Inv-loop net labels depths tables input from out₀ junctions₀ marks₀ next₀ used₀ out junctions marks next used =
     Places junctions marks × Filling net input from out next used
 
 abbrev μ-loop : tie.MeasureT-loop
-μ-loop net labels depths starts heads nexts input from out₀ junctions₀ marks₀ next₀ used₀ out junctions marks next used =
+μ-loop net labels depths tables input from out₀ junctions₀ marks₀ next₀ used₀ out junctions marks next used =
     length input - next
 
 loop-holds : tie.Need-loop-holds Inv-loop μ-loop

@@ -9,11 +9,11 @@ use Rattle.replies.proofs.program.print_replies.Statement.{statement}
 use Rattle.replies.proofs.program.print_replies.Tie as tie
 
 abbrev Inv-loop : tie.InvT-loop
-Inv-loop net labels depths starts heads nexts input output out₀ junctions₀ marks₀ next₀ out junctions marks next =
+Inv-loop net labels depths tables input output out₀ junctions₀ marks₀ next₀ out junctions marks next =
     Places junctions marks × (length out ≡ 65536)
 
 abbrev μ-loop : tie.MeasureT-loop
-μ-loop net labels depths starts heads nexts input output out₀ junctions₀ marks₀ next₀ out junctions marks next =
+μ-loop net labels depths tables input output out₀ junctions₀ marks₀ next₀ out junctions marks next =
     length input - next
 
 loop-holds : tie.Need-loop-holds Inv-loop μ-loop
