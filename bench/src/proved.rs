@@ -33,8 +33,8 @@ pub struct Count {
 
 /// A number for each possible junction.
 pub type Junctions = [u32; 1_024];
-/// A number for both ends of each possible road.
-type RoadEnds = [u32; 8_192];
+/// What is worked out once per call besides the depths.
+type Tables = [u32; 13_312];
 type Marks = [u8; 1_024];
 
 unsafe extern "C" {
@@ -84,9 +84,7 @@ unsafe extern "C" {
         labels: *const u8,
         labels_length: usize,
         depths: *mut Junctions,
-        starts: *mut Junctions,
-        heads: *mut Junctions,
-        nexts: *mut RoadEnds,
+        tables: *mut Tables,
     ) -> u32;
 
     fn measured_answers(
@@ -95,7 +93,7 @@ unsafe extern "C" {
         labels: *const u8,
         labels_length: usize,
         depths: *const Junctions,
-        starts: *const Junctions,
+        tables: *const Tables,
         queries: *const u32,
         queries_length: usize,
         count: usize,
@@ -109,9 +107,7 @@ unsafe extern "C" {
         labels: *const u8,
         labels_length: usize,
         depths: *const Junctions,
-        starts: *const Junctions,
-        heads: *const Junctions,
-        nexts: *const RoadEnds,
+        tables: *const Tables,
         s: usize,
         t: usize,
         time: u32,
@@ -126,7 +122,7 @@ unsafe extern "C" {
         labels: *const u8,
         labels_length: usize,
         depths: *const Junctions,
-        starts: *const Junctions,
+        tables: *const Tables,
         s: usize,
         t: usize,
     ) -> u32;
@@ -137,7 +133,7 @@ unsafe extern "C" {
         labels: *const u8,
         labels_length: usize,
         depths: *const Junctions,
-        starts: *const Junctions,
+        tables: *const Tables,
         s: usize,
         t: usize,
         count: u32,
@@ -205,9 +201,7 @@ pub struct Accepted<'a> {
     net: &'a [u8],
     labels: &'a [u8],
     depths: Box<Junctions>,
-    starts: Box<Junctions>,
-    heads: Box<Junctions>,
-    nexts: Box<RoadEnds>,
+    tables: Box<Tables>,
     marks: Box<Marks>,
 }
 
@@ -219,9 +213,7 @@ impl<'a> Accepted<'a> {
             net,
             labels,
             depths: junctions(),
-            starts: junctions(),
-            heads: junctions(),
-            nexts: Box::new([0; 8_192]),
+            tables: Box::new([0; 13_312]),
             marks: Box::new([0; 1_024]),
         };
         // SAFETY: slices and arrays of their own, of the sizes that the function asks for.
@@ -232,9 +224,7 @@ impl<'a> Accepted<'a> {
                 labels.as_ptr(),
                 labels.len(),
                 &mut *set.depths,
-                &mut *set.starts,
-                &mut *set.heads,
-                &mut *set.nexts,
+                &mut *set.tables,
             )
         };
         (number == 0).then_some(set)
@@ -255,7 +245,7 @@ impl<'a> Accepted<'a> {
                 self.labels.as_ptr(),
                 self.labels.len(),
                 &*self.depths,
-                &*self.starts,
+                &*self.tables,
                 queries.as_ptr(),
                 queries.len(),
                 queries.len() / 3,
@@ -282,9 +272,7 @@ impl<'a> Accepted<'a> {
                 self.labels.as_ptr(),
                 self.labels.len(),
                 &*self.depths,
-                &*self.starts,
-                &*self.heads,
-                &*self.nexts,
+                &*self.tables,
                 s,
                 t,
                 time,
@@ -306,7 +294,7 @@ impl<'a> Accepted<'a> {
                 self.labels.as_ptr(),
                 self.labels.len(),
                 &*self.depths,
-                &*self.starts,
+                &*self.tables,
                 s,
                 t,
             )
@@ -320,7 +308,7 @@ impl<'a> Accepted<'a> {
                 self.labels.as_ptr(),
                 self.labels.len(),
                 &*self.depths,
-                &*self.starts,
+                &*self.tables,
                 s,
                 t,
                 count,

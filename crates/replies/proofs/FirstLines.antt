@@ -15,7 +15,7 @@ use Rattle.replies.specs.working.Buffer.{Put, Ready, Places, FirstLine}
 module _ {net s depths tables : List ℕ} {number : ℕ} (accepting : Accepting net s number depths tables) where
   -- what queries stand on
   pub ready : number ≡ 0 → Ready net s depths tables
-  ready zero = record { prepared = ready-for-queries accepting zero; grouped = accepting .tables zero .grouped }
+  ready zero = record { prepared = ready-for-queries accepting zero; grouped = accepting .filled zero .grouped }
 
   -- both headers are there
   pub net-long : number ≡ 0 → 16 ≤ length net

@@ -54,7 +54,7 @@ slice-aggregate-print-replies c = search needs
 
 print-replies-requires : tie.Need-print-replies-requires
 print-replies-requires c κs =
-    let refusals = c .before .before .before .before .before .before .before .before .before .before .before .before in
+    let refusals = c .before .before .before .before .before .before .before .before .before .before in
     let begun = refusals .before .before .before .before .before .before .begin .ensures in (
       ready (begun .accepting) (refusals .if1 .left),
       (places-lent (length-replicate {A = ℕ} 1024 0) (length-replicate {A = ℕ} 1024 0), (simp length-take (omega arith), begun .places)),
