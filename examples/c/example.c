@@ -1,5 +1,5 @@
 /*
- * The calls of bushelvane.h on network A of the scope: five junctions, six roads.
+ * The calls of bushelvane.h on network A: five junctions, six roads.
  *
  *   0-1 (2,5)   0-2 (5,2)   1-2 (1,1)   1-3 (2,4)   2-3 (4,1)   3-4 (3,3)        pairs are (time, energy)
  *

@@ -1,4 +1,4 @@
--- Batch on an accepted set: "triples s, t, C of 32 bits; each gets a triple number, time, energy."
+-- Batch on an accepted set (SCOPE 5.2).
 use mathlib.Core.List.{List}
 use Prim.Native.Nat.{ℕ, _+_, _*_}
 use lib.ListN.{getD}

@@ -1,4 +1,4 @@
--- Check: "the number alone" (document 01, "Refusal numbers and their order").
+-- Check (SCOPE 5.1, 4.3, 4.4).
 use mathlib.Core.Path.{_≡_}
 use mathlib.Core.List.{List}
 use Prim.Native.Nat.{ℕ}
@@ -8,7 +8,7 @@ use Rattle.files.specs.LabelForm.{labelsNumber}
 use Rattle.stored.specs.Right.{EveryListRight}
 
 module _ (net labels : List ℕ) (number : ℕ) where
-  -- The network's number, then the labels', then 18: "given exactly if all before it pass and a list differs from the definition"
+  -- The network's number, then the labels', then 18 exactly if some list is not right
   pub data Checked : Type 0 where
     network-refused : (netNumber versionOne net ≡ 0 → ⊥) → number ≡ netNumber versionOne net → Checked
     labels-refused : netNumber versionOne net ≡ 0 → (labelsNumber net labels ≡ 0 → ⊥) → number ≡ labelsNumber net labels → Checked

@@ -1,4 +1,4 @@
--- The check, and what Batch, Route and Trade-off list answer on an accepted set: document 01's section "The calls", one file a call.
+-- The check, and what Batch, Route and Trade-off list answer on an accepted set: SCOPE 5, one file a call.
 -- `labels/specs` adds what the whole calls give.
 pub mod Check
 pub mod Batch

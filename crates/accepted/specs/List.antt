@@ -1,5 +1,4 @@
--- Trade-off list on an accepted set: "into two lent slices, times then energies, count returned; room is the shorter of the two.
--- First places are filled and later ones stay, here and wherever a call writes a list."
+-- Trade-off list on an accepted set (SCOPE 5.4).
 use mathlib.Core.Path.{_≡_}
 use mathlib.Core.Logic.{_⊎_}
 use mathlib.Core.List.{List}

@@ -1,4 +1,4 @@
--- The number and the count of Trade-off list's answer: "Every refusal carries zeros beside its number".
+-- The number and the count of Trade-off list's answer, zeros beside a refusal (SCOPE 4.1).
 use Prim.Native.Nat.{ℕ}
 use Rattle.accepted.specs.declared.ListAnswer.{ListAnswer}
 use Rattle.accepted.specs.declared.ListAnswer.the-variants as case

@@ -1,5 +1,4 @@
--- Route on an accepted set: "number, time, energy, count of junctions; they fill the first places of a lent slice, later places
--- stay. 24 exactly if the route has more junctions than places."
+-- Route on an accepted set (SCOPE 5.3).
 use mathlib.Core.Path.{_≡_}
 use mathlib.Core.List.{List}
 use Prim.Native.Nat.{ℕ, _≤_, _<_}

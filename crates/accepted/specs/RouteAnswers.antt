@@ -1,5 +1,4 @@
--- The number and the values of Route's answer ("For an answer that is an enum, a definition provides this paper's number and
--- values for each of the enum's cases."; "Every refusal carries zeros beside its number").
+-- The number and the values of Route's answer, case by case, zeros beside a refusal (SCOPE 4.1).
 use Prim.Native.Nat.{ℕ}
 use Rattle.accepted.specs.declared.RouteAnswer.{RouteAnswer}
 use Rattle.accepted.specs.declared.RouteAnswer.the-variants as case

@@ -8,7 +8,7 @@ ghost use Rattle.query.specs.working.AnswerValues.{numberOf, timeOf, energyOf};
 ghost use Rattle.query.specs.working.Prepared.{Prepared};
 ghost use Rattle.accepted.specs.working.Triples.{putTriple, AnsweredTo, Triples};
 
-// "21, 22, 23"; 0 for a found pair.
+// 21, 22 or 23; 0 for a found pair.
 pub fn number_of_answer(answer: Answer) -> u32
     ensures { λ r. ⌜ r ≡ numberOf answer ⌝ }
 {

@@ -1,4 +1,4 @@
--- Numbers in files (document 01: "Little-endian.").
+-- Numbers in files (SCOPE 3): little-endian.
 use mathlib.Core.Bool.{Bool, _&&_}
 use mathlib.Core.List.{List}
 use Prim.Native.Nat.{ℕ, _+_, _*_}

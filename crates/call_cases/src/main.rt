@@ -100,7 +100,7 @@ fn list(net: &[u8], labels: &[u8], s: u32, t: u32, room: usize) {
     print_all(&energies);
 }
 
-// Both ways between two junctions, under each limit of the scope's examples.
+// Both ways between two junctions, under each limit of the worked examples.
 fn limits(net: &[u8], labels: &[u8]) {
     route(net, labels, 0, 3, 2, 5);
     route(net, labels, 0, 3, 3, 5);

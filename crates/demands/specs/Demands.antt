@@ -1,4 +1,4 @@
--- "Three demands hold before a truck leaves": what is demanded, over what the calls state of themselves. That each call ends on
+-- The three demands (SCOPE 7), over what the calls state of themselves. That each call ends on
 -- arbitrary bytes and numbers is part of its being proved: no statement has a condition.
 -- In this order: demand 1; the words of the other two; demand 2; demand 3.
 use mathlib.Core.Path.{_≡_}
@@ -31,7 +31,7 @@ use Rattle.labels.specs.List.{Listed}
 
 -- ---- Demand 1
 
--- "A refusal carries zeros or an empty part, and no entry of a lent buffer has changed."
+-- What a refusal carries, and that it changes nothing lent (SCOPE 7.1, 4.1)
 pub record Demand1 : Type 0 where
   -- Batch refused: every answer place is as it was
   pub batch : {net labels queries before after : List ℕ} {number : ℕ} → BatchDone net labels queries before number after → (number ≡ 0 → ⊥) → after ≡ before
@@ -53,12 +53,12 @@ pub record Demand1 : Type 0 where
       (count ≡ 0) × (timesAfter ≡ timesBefore) × (energiesAfter ≡ energiesBefore)
   -- Limited join refused: two zeros
   pub limited-join : {ts es us fs : List ℕ} {limit number time energy : ℕ} → LimitedJoin ts es us fs limit number time energy → (number ≡ 0 → ⊥) → (time ≡ 0) × (energy ≡ 0)
-  -- Show with nothing to show: "an empty part"
+  -- Show with nothing to show: the empty part
   pub show : {labels part : List ℕ} {v u : ℕ} → Shown labels v u part → (Shows labels v u → ⊥) → part ≡ []
 
 -- ---- Words of demands 2 and 3
 
--- "each stored list is the complete trade-off list of its two junctions: every pair is a real path's, none is beaten, none is absent"
+-- Right labels (SCOPE 2.9), spelled out: nothing invented, nothing beaten, nothing left out
 pub record Complete (net labels : List ℕ) : Type 0 where
   pub real :
       {v u : ℕ} → Above (parentsOf labels) u v → (p : Weight) → List·Memᴰ p (stored labels v u) →
@@ -74,7 +74,7 @@ abbrev pub Gives : List ℕ → List ℕ → ℕ → ℕ → ℕ → ℕ → ℕ
 Gives net labels s t limit number time energy =
     BatchDone net labels (s ∷ (t ∷ (limit ∷ []))) (0 ∷ (0 ∷ (0 ∷ []))) 0 (number ∷ (time ∷ (energy ∷ [])))
 
--- "two answered legs": a junction of the set, and a way "to cut the limit in two whole parts"
+-- Two answered legs: a junction of the set, and the limit cut into two whole parts
 pub record AnsweredLegs (net labels : List ℕ) (H : ℕ → Type 0) (s t limit time energy : ℕ) : Type 0 where
   pub at : ℕ
   pub inside : H at
@@ -90,7 +90,7 @@ pub record AnsweredLegs (net labels : List ℕ) (H : ℕ → Type 0) (s t limit 
   pub times-add : first-time + second-time ≡ time
   pub energies-add : first-energy + second-energy ≡ energy
 
--- "the best total of two answered legs over all junctions of the set and all ways to cut the limit"
+-- The best total of two answered legs, over every junction of the set and every cut
 pub record BestTotal (net labels : List ℕ) (H : ℕ → Type 0) (s t limit time energy : ℕ) : Type 0 where
   pub legs : AnsweredLegs net labels H s t limit time energy
   pub least : (otherTime otherEnergy : ℕ) → AnsweredLegs net labels H s t limit otherTime otherEnergy → NotLater energyFigures (pair time energy) (pair otherTime otherEnergy)
@@ -98,19 +98,18 @@ pub record BestTotal (net labels : List ℕ) (H : ℕ → Type 0) (s t limit tim
 -- ---- Demand 2
 
 pub record Demand2 (net labels : List ℕ) : Type 0 where
-  -- "A well-formed label set is accepted exactly if each stored list is the complete trade-off list of its two junctions: every pair
-  -- is a real path's, none is beaten, none is absent."
+  -- Labels of the right form are accepted exactly if they are right
   pub accepted-exactly : netNumber versionOne net ≡ 0 → labelsNumber net labels ≡ 0 → (number : ℕ) → Checked net labels number → (number ≡ 0) ↔ Complete net labels
-  -- "On an accepted set a query gives": any three numbers are answered, and in one way
+  -- On accepted labels any three numbers are answered, and in one way
   pub some-answer : Checked net labels 0 → (s t limit : ℕ) → (number : ℕ) × (time : ℕ) × (energy : ℕ) × Gives net labels s t limit number time energy
   pub one-answer :
       {s t limit number time energy number′ time′ energy′ : ℕ} → Checked net labels 0 →
       Gives net labels s t limit number time energy → Gives net labels s t limit number′ time′ energy′ → (number ≡ number′) × (time ≡ time′) × (energy ≡ energy′)
-  -- "the least time within its energy limit, then the least energy,"
+  -- by the best answer
   pub found-exactly :
       {s t limit time energy : ℕ} → Checked net labels 0 →
       Gives net labels s t limit 0 time energy ↔ ((s < junctionsOf net) × (t < junctionsOf net) × Best (networkOf net) s t limit (pair time energy))
-  -- "then the first route in junction order."
+  -- and its first route
   pub first-route :
       {before after : List ℕ} {s t limit time energy count : ℕ} → Checked net labels 0 → Routed net labels s t limit before 0 time energy count after →
       (route : List ℕ) × FirstRoute (networkOf net) s t (pair time energy) route × (count ≡ length route) × (after ≡ filled before route)
@@ -129,7 +128,7 @@ pub record Demand2 (net labels : List ℕ) : Type 0 where
       Listed net labels s t timesBefore energiesBefore 0 count timesAfter energiesAfter →
       (list : List Weight) × IsTradeOff (networkOf net) s t list × (count ≡ length list) ×
       (timesAfter ≡ filled timesBefore (times list)) × (energiesAfter ≡ filled energiesBefore (energies list))
-  -- "'Over the limit' and 'not connected' are answered exactly if so;"
+  -- 22 and 23 are given exactly if they are so
   pub over-exactly :
       {s t limit number time energy : ℕ} → Checked net labels 0 → Gives net labels s t limit number time energy →
       (number ≡ 23) ↔ ((s < junctionsOf net) × (t < junctionsOf net) × Over (networkOf net) s t limit)
@@ -140,7 +139,7 @@ pub record Demand2 (net labels : List ℕ) : Type 0 where
       {timesBefore energiesBefore timesAfter energiesAfter : List ℕ} {s t number count : ℕ} → Checked net labels 0 →
       Listed net labels s t timesBefore energiesBefore number count timesAfter energiesAfter →
       (number ≡ 22) ↔ ((s < junctionsOf net) × (t < junctionsOf net) × Apart (networkOf net) s t)
-  -- "a junction off the map,"
+  -- Other reasons: a junction off the map
   pub off-map-exactly :
       {s t limit number time energy : ℕ} → Checked net labels 0 → Gives net labels s t limit number time energy →
       (number ≡ 21) ↔ ((junctionsOf net ≤ s) ⊎ (junctionsOf net ≤ t))
@@ -148,10 +147,10 @@ pub record Demand2 (net labels : List ℕ) : Type 0 where
       {timesBefore energiesBefore timesAfter energiesAfter : List ℕ} {s t number count : ℕ} → Checked net labels 0 →
       Listed net labels s t timesBefore energiesBefore number count timesAfter energiesAfter →
       (number ≡ 21) ↔ ((junctionsOf net ≤ s) ⊎ (junctionsOf net ≤ t))
-  -- "a misshapen batch": on an accepted set Batch's own number is the shape's
+  -- a misshapen batch: on accepted labels Batch's own number is the shape's
   pub batch-number-exactly :
       {queries before after : List ℕ} {number : ℕ} → Checked net labels 0 → BatchDone net labels queries before number after → number ≡ shapeNumber queries before
-  -- "or too little lent room": a route with more junctions than places
+  -- too little room: a route with more junctions than places
   pub route-room-exactly :
       {before after route : List ℕ} {s t limit number time energy count bestTime bestEnergy : ℕ} → Checked net labels 0 →
       Routed net labels s t limit before number time energy count after →
@@ -163,7 +162,7 @@ pub record Demand2 (net labels : List ℕ) : Type 0 where
       Listed net labels s t timesBefore energiesBefore number count timesAfter energiesAfter →
       IsTradeOff (networkOf net) s t list → s < junctionsOf net → t < junctionsOf net → 1 ≤ length list →
       (number ≡ 24) ↔ (min (length timesBefore) (length energiesBefore) < length list)
-  -- "are the only other reasons."
+  -- and no further one
   pub only-reasons :
       {s t limit number time energy : ℕ} → Checked net labels 0 → Gives net labels s t limit number time energy →
       (number ≡ 0) ⊎ ((number ≡ 21) ⊎ ((number ≡ 22) ⊎ (number ≡ 23)))
@@ -174,13 +173,13 @@ pub record Demand2 (net labels : List ℕ) : Type 0 where
 
 -- ---- Demand 3
 
--- "On an accepted set, for any start, finish, limit and any set of junctions that meets every path between the two:"
+-- Over any set of junctions that meets every path between the two (SCOPE 7.3)
 pub record Demand3 (net labels : List ℕ) : Type 1 where
-  -- "the answer is the best total of two answered legs over all junctions of the set and all ways to cut the limit in two whole parts;"
+  -- an answer is the best total of two answered legs
   pub answered :
       Checked net labels 0 → (H : ℕ → Type 0) (s t limit : ℕ) → IsCut (networkOf net) H s t →
       (time energy : ℕ) → Gives net labels s t limit 0 time energy ↔ BestTotal net labels H s t limit time energy
-  -- "where no junction and cut give two answered legs, it is refused."
+  -- and there is none where no junction and no cut give two
   pub refused :
       Checked net labels 0 → (H : ℕ → Type 0) (s t limit : ℕ) → IsCut (networkOf net) H s t →
       (number time energy : ℕ) → Gives net labels s t limit number time energy →

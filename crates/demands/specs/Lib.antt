@@ -1,2 +1,2 @@
--- The three demands of document 01.
+-- The three demands (SCOPE 7).
 pub mod Demands

@@ -1,4 +1,4 @@
--- What a label file is refused by, 11 to 17 (document 01, "Refusal numbers and their order").
+-- What a label file is refused by, 11 to 17 (SCOPE 4.3).
 use mathlib.Core.Bool.{Bool, true, _&&_}
 use mathlib.Core.List.{List}
 use Prim.Native.Nat.{ℕ}
@@ -15,7 +15,7 @@ use Rattle.stored.specs.ListForm.{mostBytes, listsNumber}
 
 -- ---- The parts, between which 14 and 16 stand
 
--- "11 (under 16 or over the most), 12, 13"
+-- The header's tests: 11, 12, 13
 unfoldable pub headerForm : List ℕ → ℕ
 headerForm labels =
     unless (leb 16 (length labels) && leb (length labels) mostBytes) 11
@@ -23,14 +23,14 @@ headerForm labels =
     (unless (labelsServed (versionOf labels)) 13
     0))
 
--- "11 (parents cut off), 15"
+-- The parents' tests: 11 if they are cut off, 15
 unfoldable pub parentsForm : List ℕ → ℕ
 parentsForm labels =
     unless (leb (listsFrom labels) (length labels)) 11
     (unless (parentsPass labels) 15
     0)
 
--- "then counts and numbers [...]. After the last list: bytes left 11, wrong E 17"
+-- The lists' tests, then bytes left over, 11, and a wrong E, 17
 unfoldable pub listsForm : List ℕ → ℕ
 listsForm labels =
     decided (listsNumber labels)
@@ -40,7 +40,7 @@ listsForm labels =
 
 -- ---- The whole
 
--- "Labels: 11 (under 16 or over the most), 12, 13, 14, 11 (parents cut off), 15, 16, then counts and numbers". What 14 and 16 ask
+-- The labels' number (SCOPE 4.3). What 14 and 16 ask
 -- depends on whether there is a network.
 unfoldable pub labelForm : Bool → Bool → List ℕ → ℕ
 labelForm fits joins labels =
@@ -50,7 +50,7 @@ labelForm fits joins labels =
     (unless joins 16
     (listsForm labels))))
 
--- "14 n or identity differs from the network"
+-- 14: of one network
 unfoldable pub sameNetwork : List ℕ → List ℕ → Bool
 sameNetwork net labels = eqb (junctionsOf labels) (junctionsOf net) && eqb (identityOf labels) (identityOf net)
 
@@ -58,7 +58,7 @@ sameNetwork net labels = eqb (junctionsOf labels) (junctionsOf net) && eqb (iden
 unfoldable pub labelsNumber : List ℕ → List ℕ → ℕ
 labelsNumber net labels = labelForm (sameNetwork net labels) (every (roadJoins net labels) (roadsOf net)) labels
 
--- "A call that has labels but no network takes n from them and gives 14 for n outside 1 to 1,024."
+-- Labels without a network: 14 asks for their own n
 abbrev pub junctionsFit : List ℕ → Bool
 junctionsFit labels = leb 1 (junctionsOf labels) && leb (junctionsOf labels) 1024
 

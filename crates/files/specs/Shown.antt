@@ -1,5 +1,4 @@
--- Show: "The list of a proper ancestor is handed out as the very bytes lent, from its count through its last entry. Where 11 to 15
--- or 17 would be given, v or u is not below n, or u is no proper ancestor of v, the part is empty."
+-- Show (SCOPE 5.7).
 use mathlib.Core.Path.{_≡_}
 use mathlib.Core.List.{List, []}
 use Prim.Native.Nat.{ℕ, _-_, _<_}

@@ -112,7 +112,7 @@ module _ (s : List ℕ) where
 
   -- ---- Depths
 
-  -- "a root's being 0"
+  -- How deep v stands, a root at 0
   pub depth-root : (v : ℕ) → IsRoot v → depthOf s v ≡ 0
   unfolding depthOf
   depth-root v h = steps-root (junctionsOf s) v h

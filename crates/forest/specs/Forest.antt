@@ -1,5 +1,4 @@
--- Chains of parents in a label file, counted in steps (document 01: "The depths of all 1,024 possible junctions are worked out
--- once per call, a root's being 0."). `proofs/Forest.antt` shows that these are the depths and ancestors of the paths' definitions.
+-- Chains of parents in a label file, counted in steps (SCOPE 2.4). `proofs/Forest.antt` shows that these are the depths and ancestors of the paths' definitions.
 use mathlib.Core.Bool.{Bool, cond, _&&_, _||_}
 use mathlib.Core.List.{List}
 use Prim.Native.Nat.{ℕ, zero, suc, _-_}
@@ -22,7 +21,7 @@ unfoldable pub ancestorOf : List ℕ → ℕ → ℕ → ℕ
 ancestorOf labels v zero = v
 ancestorOf labels v (suc k) = ancestorOf labels (parentAt labels v) k
 
--- 15: "parent not below n and not 65,535, or a parent chain that returns"
+-- 15: a parent is a junction or none, and no chain comes back
 unfoldable pub parentFits : List ℕ → ℕ → Bool
 parentFits labels v = ltb (parentAt labels v) (junctionsOf labels) || eqb (parentAt labels v) noParent
 

@@ -1,4 +1,4 @@
--- The label file's numbers (document 01, "Network file and label file").
+-- The label file's numbers (SCOPE 3.1, 3.3).
 use mathlib.Core.Bool.{cond, not, _&&_}
 use mathlib.Core.List.{List}
 use mathlib.Core.Option.{none, some}
@@ -8,11 +8,11 @@ use Rattle.paths.specs.Forest.{Parents}
 use Rattle.bytes.specs.Bytes.{u16At, u32At}
 use Rattle.network.specs.NetworkFile.{junctionsOf}
 
--- "8–11 E, all entries"
+-- E, in bytes 8 to 11
 abbrev pub entriesOf : List ℕ → ℕ
 entriesOf labels = u32At labels 8
 
--- "n parents of 16 bits, 65,535 for a root"
+-- The parents, behind the header
 abbrev pub parentAt : List ℕ → ℕ → ℕ
 parentAt labels v = u16At labels (16 + 2 * v)
 
@@ -27,7 +27,7 @@ listsFrom labels = 16 + 2 * junctionsOf labels
 unfoldable pub parentsOf : List ℕ → Parents
 parentsOf labels v = cond (ltb v (junctionsOf labels) && not (eqb (parentAt labels v) noParent)) (some (parentAt labels v)) none
 
--- A list at byte `at`: "a 16-bit count", then entries "of two 32-bit numbers", time and energy
+-- A list at byte `at`: a count of 16 bits, then entries of 32 bits for the time and 32 for the energy
 abbrev pub countAt : List ℕ → ℕ → ℕ
 countAt labels at = u16At labels at
 

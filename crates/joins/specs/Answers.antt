@@ -1,4 +1,4 @@
--- What the two joins answer, for all inputs (document 01, "The calls").
+-- What the two joins answer, for all inputs (SCOPE 5.5, 5.6).
 use mathlib.Core.Path.{_≡_}
 use mathlib.Core.List.{List}
 use Prim.Native.Nat.{ℕ, _≤_, _<_, min}
@@ -14,7 +14,7 @@ use Rattle.joins.specs.declared.JoinAnswer.the-variants as joinCase
 use Rattle.joins.specs.declared.SumAnswer.{SumAnswer}
 use Rattle.joins.specs.declared.SumAnswer.the-variants as sumCase
 
--- The number and the count of a join's answer: "Every refusal carries zeros beside its number"
+-- The number and the count of a join's answer, zeros beside a refusal (SCOPE 4.1)
 abbrev pub joinNumberOf : JoinAnswer → ℕ
 joinNumberOf (joinCase.Joined count) = 0
 joinNumberOf joinCase.LengthsDiffer = 41
@@ -46,7 +46,7 @@ sumEnergyOf sumCase.LengthsDiffer = 0
 sumEnergyOf sumCase.IllFormed = 0
 sumEnergyOf sumCase.OverLimit = 0
 
--- Limited join: "two lists as in Join and a limit in; number, time and energy of the best sum out"
+-- Limited join (SCOPE 5.6)
 pub data LimitedJoin (ts es us fs : List ℕ) (C number time units : ℕ) : Type 0 where
   refused :
       (joinNumber ts es us fs ≡ 0 → ⊥) → number ≡ joinNumber ts es us fs → time ≡ 0 → units ≡ 0 → LimitedJoin ts es us fs C number time units
@@ -63,7 +63,7 @@ pub data LimitedJoin (ts es us fs : List ℕ) (C number time units : ℕ) : Type
       number ≡ 0 →
       LimitedJoin ts es us fs C number time units
 
--- Join: "two lists in, one out the same way"; "room is the shorter of the two"; "24 the answer needs more places than were lent"
+-- Join (SCOPE 5.5): the shorter of the two slices is the room
 pub data Join (ts es us fs : List ℕ) (outTimes outEnergies : List ℕ) (number count : ℕ) (timesAfter energiesAfter : List ℕ) : Type 0 where
   refused :
       (joinNumber ts es us fs ≡ 0 → ⊥) →

@@ -1,5 +1,4 @@
--- Join's 41 and 42 (document 01: "41 join: a list's two slices differ in length"; "42 join: list over 4,095 entries, a number
--- above 1,073,741,823, or order broken"; "Join: 41, 42, 24; limited join: 41, 42, 23; first list before second at each number").
+-- Join's 41 and 42 (SCOPE 4.2, 4.3).
 use mathlib.Core.Bool.{Bool, true, _&&_}
 use mathlib.Core.List.{List}
 use Prim.Native.Nat.{ℕ, zero, suc}

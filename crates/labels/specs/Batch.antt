@@ -1,5 +1,4 @@
--- Batch: "triples s, t, C of 32 bits; each gets a triple number, time, energy. [...] Such a code refuses its triple alone; the
--- call's number is 0. An empty batch is answered."
+-- Batch (SCOPE 5.2).
 use mathlib.Core.Path.{_≡_}
 use mathlib.Core.Bool.{_&&_}
 use mathlib.Core.List.{List}
@@ -10,7 +9,7 @@ use Rattle.refusals.specs.Order.{unless}
 use Rattle.accepted.specs.Check.{Checked}
 use Rattle.accepted.specs.Batch.{TripleAnswered}
 
--- "31 batch length no multiple of 3, or above 3,072"; "32 answer slice not as long as the batch"; both before the check
+-- 31 and 32: the shape of the batch, asked before the check
 unfoldable pub shapeNumber : List ℕ → List ℕ → ℕ
 shapeNumber queries answers =
     unless (eqb (length queries % 3) 0 && leb (length queries) 3072) 31

@@ -1,4 +1,4 @@
--- What each public call gives, for all inputs: document 01's section "The calls", one file a call. (Check, and what the calls answer
+-- What each public call gives, for all inputs: SCOPE 5, one file a call. (Check, and what the calls answer
 -- on an accepted set: `accepted/specs`; Join and Limited join: `joins/specs/Answers.antt`; Show: `files/specs/Shown.antt`.)
 pub mod Batch
 pub mod Route

@@ -1,6 +1,6 @@
 // The calls of Bushelvane. Each takes arbitrary bytes and numbers, always ends, and states its number, its values and every lent
 // place for all inputs; a refusal carries zeros and changes nothing lent. What the statements mean is said in specs/, one file a
-// call, in the words of the scope. An answer that is an enum is handed on from where it is made: a caller names this crate alone.
+// call, in the words of docs/SCOPE.md. An answer that is an enum is handed on from where it is made: a caller names this crate alone.
 pub use accepted::ListAnswer;
 pub use accepted::RouteAnswer;
 use accepted::accept::accept;

@@ -1,4 +1,4 @@
--- Show for C: the part as a place in the lent bytes and a length ("The list of a proper ancestor is handed out as the very bytes lent").
+-- Show for C (SCOPE 5.7): the part as a place in the lent bytes and a length.
 use mathlib.Core.Path.{_≡_}
 use mathlib.Core.List.{List}
 use Prim.Native.Nat.{ℕ, _+_, _≤_}

@@ -1,4 +1,4 @@
--- The network file (document 01, "Network file and label file"): its numbers, and its roads as arcs.
+-- The network file (SCOPE 3.1, 3.2, 4.3): its numbers, and its roads as arcs.
 use mathlib.Core.Path.{_≡_}
 use mathlib.Core.Logic.{_⊎_}
 use mathlib.Core.List.{List}
@@ -8,7 +8,7 @@ use Rattle.paths.specs.Network.{Network}
 use Rattle.bytes.specs.Bytes.{u16At, u32At}
 use Rattle.network.specs.Versions.{recordBytes}
 
--- The header: "3–4 version", "6–7 n", "8–11 m roads", "12–15 identity"; the label file has version, n and identity at the same bytes
+-- The header (SCOPE 3.1); the label file has version, n and identity at the same bytes
 abbrev pub versionOf : List ℕ → ℕ
 versionOf file = u16At file 3
 
@@ -25,7 +25,7 @@ identityOf file = u32At file 12
 abbrev pub recordAt : List ℕ → ℕ → ℕ → ℕ
 recordAt net k byte = 16 + byte + recordBytes (versionOf net) * k
 
--- Record k: "lower junction, higher junction, time, energy, 16 bits each"
+-- Record k (SCOPE 3.2)
 abbrev pub roadLow : List ℕ → ℕ → ℕ
 roadLow net k = u16At net (recordAt net k 0)
 

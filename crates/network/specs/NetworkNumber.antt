@@ -1,4 +1,4 @@
--- The refusals 1 to 6 of a network file, in their order (document 01, "Refusal numbers and their order").
+-- The refusals 1 to 6 of a network file, in their order (SCOPE 4.2, 4.3).
 use mathlib.Core.Bool.{Bool, true, _&&_, _||_}
 use mathlib.Core.List.{List}
 use Prim.Native.Nat.{ℕ, zero, suc}
@@ -12,22 +12,22 @@ use Rattle.network.specs.NetworkFile.{versionOf, junctionsOf, roadsOf, r
 
 -- ---- A record
 
--- "records strictly rise by (lower, higher)": record k stands after the one before
+-- Record k stands after the one before it: by lower end, then by higher end
 abbrev pub recordRises : List ℕ → ℕ → Bool
 recordRises net zero = true
 recordRises net (suc k) =
     ltb (roadLow net k) (roadLow net (suc k))
     || (eqb (roadLow net k) (roadLow net (suc k)) && ltb (roadHigh net k) (roadHigh net (suc k)))
 
--- "5 ends not lower < higher < n, or record not after the one before"
+-- 5: the ends are a lower and a higher junction, and the record stands after the one before it
 unfoldable pub endsFit : List ℕ → ℕ → Bool
 endsFit net k = ltb (roadLow net k) (roadHigh net k) && ltb (roadHigh net k) (junctionsOf net) && recordRises net k
 
--- "6 time or energy 0"
+-- 6: it takes time, and the energy that its version asks
 unfoldable pub figuresFit : List ℕ → ℕ → Bool
 figuresFit net k = leb 1 (roadTime net k) && leb (leastEnergy (versionOf net)) (roadEnergy net k)
 
--- "5 before 6 in each"
+-- 5 of a record, then 6
 unfoldable pub recordNumber : List ℕ → ℕ → ℕ
 recordNumber net k =
     unless (endsFit net k) 5
@@ -36,11 +36,11 @@ recordNumber net k =
 
 -- ---- The whole file
 
--- "n, 1 to 1,024", "m roads, 0 to 4,096"
+-- 4: how many junctions and roads there may be
 unfoldable pub sizesFit : List ℕ → Bool
 sizesFit net = leb 1 (junctionsOf net) && leb (junctionsOf net) 1024 && leb (roadsOf net) 4096
 
--- "1 (under 16), 2, 3, 4, 1 (whole length)", and 0 where the records decide
+-- The header's number, 0 where the records decide
 unfoldable pub headerNumber : Served → List ℕ → ℕ
 headerNumber serves net =
     unless (leb 16 (length net)) 1
@@ -50,6 +50,6 @@ headerNumber serves net =
     (unless (eqb (length net) (recordAt net (roadsOf net) 0)) 1
     0))))
 
--- "then records in file order"
+-- The header's number, then that of the first record that is refused
 unfoldable pub netNumber : Served → List ℕ → ℕ
 netNumber serves net = decided (headerNumber serves net) (firstFault (recordNumber net) 0 (roadsOf net))

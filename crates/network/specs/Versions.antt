@@ -1,4 +1,4 @@
--- Which versions of the two files are served, and what each asks; document 01 has version 1 alone. `proofs/VersionTable.antt` pins the rows.
+-- Which versions of the two files are served, and what each asks; version 1 alone is (SCOPE 3.1). `proofs/VersionTable.antt` pins the rows.
 use mathlib.Core.Bool.{Bool, _&&_}
 use Prim.Native.Nat.{ℕ}
 use lib.Dec.{leb, eqb}
@@ -10,7 +10,7 @@ use Rattle.network.specs.declared.versions.Served.{Served}
 abbrev pub served : Served → ℕ → Bool
 served serves version = leb (serves .first) version && leb version (serves .last)
 
--- "3–4 version, 1"
+-- Version 1 alone
 abbrev pub versionOne : Served
 versionOne = record { first = 1; last = 1 }
 
@@ -20,10 +20,10 @@ labelsServed version = eqb version 1
 
 -- ---- What each asks
 
--- The least energy of a road, and of an entry: "time and energy are 1 to 65,535", "each 1 to 67,042,305"
+-- The least energy of a road, and of an entry
 abbrev pub leastEnergy : ℕ → ℕ
 leastEnergy version = 1
 
--- The bytes of a road's record: "lower junction, higher junction, time, energy, 16 bits each"
+-- The bytes of a road's record (SCOPE 3.2)
 abbrev pub recordBytes : ℕ → ℕ
 recordBytes version = 8

@@ -1,4 +1,4 @@
--- Concatenation at a cut (document 001, theorems 2 and 3), and demand 3 over best answers.
+-- Concatenation at a cut (SCOPE 7.3; [FHL], theorems 2 and 3), and demand 3 over best answers.
 -- In this order: skylines; legs and their sum; demand 3.
 use mathlib.Core.Path.{_≡_, refl, sym, ap, ap₂, _∙_, subst}
 use mathlib.Core.Logic.{_↔_}

@@ -1,4 +1,4 @@
--- Document 01's starred examples hold: one computed test shows that all lists agree with the roads and that the routes lead;
+-- The worked examples of SCOPE 8 hold: one computed test shows that all lists agree with the roads and that the routes lead;
 -- answers and the join are read off those lists. In this order: the lists of all pairs of junctions; the test; answers; the examples.
 use mathlib.Core.Path.{_≡_, refl}
 use mathlib.Core.Logic.{Dec·and}

@@ -1,4 +1,4 @@
--- Answers under a limit (document 01, "Words" and numbers 22 and 23).
+-- Answers under a limit (SCOPE 2.7; numbers 22 and 23 of 4.2).
 use mathlib.Core.Path.{_≡_}
 use mathlib.Core.List.{List}
 use Prim.Native.Nat.{ℕ}
@@ -10,31 +10,31 @@ use Rattle.paths.specs.TradeOff.{IsSum}
 module _ {𝓛 : Figures} (𝓝 : Network 𝓛) where
   open Figures (weights 𝓛) using (Figure as Weight)
 
-  -- "The best answer under limit C is the pair with energy at most C and least time; equal times are decided by least energy."
+  -- The best answer under C (SCOPE 2.7): within C, and no path within C has less time, or the same time and less energy
   pub record Best (s t : ℕ) (C : 𝓛 .Figure) (p : Weight) : Type 0 where
     pub walk : Walk 𝓝 s t
     pub weighs : weight walk ≡ p
     pub within : Within 𝓛 C p
     pub least : (other : Walk 𝓝 s t) → Within 𝓛 C (weight other) → NotLater 𝓛 p (weight other)
 
-  -- 23: "paths exist, none within C"
+  -- 23: some path, but none within C
   pub record Over (s t : ℕ) (C : 𝓛 .Figure) : Type 0 where
     pub walk : Walk 𝓝 s t
     pub none-within : (other : Walk 𝓝 s t) → Within 𝓛 C (weight other) → ⊥
 
-  -- 22: "no path at all"
+  -- 22: no path
   abbrev pub Apart : ℕ → ℕ → Type 0
   Apart s t = Walk 𝓝 s t → ⊥
 
 module _ (𝓛 : Figures) where
   open Figures (weights 𝓛) using (Figure as Weight)
 
-  -- Limited join: "the best sum" of two lists under a limit
+  -- Limited join: the best sum of two lists under a limit (SCOPE 5.6)
   pub record BestSum (k l : List Weight) (C : 𝓛 .Figure) (p : Weight) : Type 0 where
     pub sum : IsSum 𝓛 k l p
     pub within : Within 𝓛 C p
     pub least : (q : Weight) → IsSum 𝓛 k l q → Within 𝓛 C q → NotLater 𝓛 p q
 
-  -- Limited join's 23: "no sum within C"
+  -- Limited join's 23: every sum is above C
   abbrev pub NoSum : List Weight → List Weight → 𝓛 .Figure → Type 0
   NoSum k l C = (p : Weight) → IsSum 𝓛 k l p → Within 𝓛 C p → ⊥

@@ -1,4 +1,4 @@
--- Sets that meet every path, and the legs that join there (demand 3; document 001, theorems 2 and 3).
+-- Sets that meet every path, and the legs that join there (SCOPE 7.3; [FHL], theorems 2 and 3).
 use mathlib.Core.Path.{_≡_}
 use mathlib.Core.List.{List·Memᴰ}
 use Prim.Native.Nat.{ℕ}
@@ -18,11 +18,11 @@ module _ {𝓛 : Figures} (𝓝 : Network 𝓛) (H : ℕ → Type 0) where
     pub inside : H at
     pub met : List·Memᴰ at (junctions w)
 
-  -- "any set of junctions that meets every path between the two"
+  -- H meets every path between the two (SCOPE 7.3)
   abbrev pub IsCut : ℕ → ℕ → Type 0
   IsCut s t = (w : Walk 𝓝 s t) → Meets w
 
-  -- Document 001, theorem 2: p is the sum of a skyline weight to a junction of H and one from there
+  -- [FHL], theorem 2: p is the sum of a skyline weight to a junction of H and one from there
   pub record SkylineSum (s t : ℕ) (p : Weight) : Type 0 where
     pub at : ℕ
     pub inside : H at
@@ -32,7 +32,7 @@ module _ {𝓛 : Figures} (𝓝 : Network 𝓛) (H : ℕ → Type 0) where
     pub second-skyline : Skyline 𝓝 at t second
     pub adds : first ⊕ second ≡ p
 
-  -- "two answered legs": a junction of the set and a way "to cut the limit in two whole parts"
+  -- Two answered legs: a junction of the set, and the limit cut into two whole parts
   pub record Legs (s t : ℕ) (C : 𝓛 .Figure) (p : Weight) : Type 0 where
     pub at : ℕ
     pub inside : H at
@@ -45,7 +45,7 @@ module _ {𝓛 : Figures} (𝓝 : Network 𝓛) (H : ℕ → Type 0) where
     pub second-leg : Best 𝓝 at t second-limit second
     pub adds : first ⊕ second ≡ p
 
-  -- Demand 3: "the best total of two answered legs over all junctions of the set and all ways to cut the limit"
+  -- The best total of two answered legs, over every junction of the set and every cut of the limit
   pub record BestLegs (s t : ℕ) (C : 𝓛 .Figure) (p : Weight) : Type 0 where
     pub legs : Legs s t C p
     pub least : (q : Weight) → Legs s t C q → NotLater 𝓛 p q

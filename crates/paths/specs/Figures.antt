@@ -1,6 +1,6 @@
 -- Figures: what a road costs besides time, and how such costs add up and compare.
 --
--- Document 01 has one limited figure, energy; a second one, tolls, stands beside it in one product. Everything above this file
+-- One limited figure is served, energy (SCOPE 1.3); a second one, tolls, stands beside it in one product. Everything above this file
 -- is stated over any `Figures`, so the number of limits is chosen once, where an instance is named.
 use mathlib.Core.Path.{_≡_}
 use mathlib.Core.Logic.{_⊎_}

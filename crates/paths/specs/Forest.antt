@@ -1,4 +1,4 @@
--- Forests and the junctions where two branches meet (document 01, "Words"; document 000: tree decomposition, hoplinks).
+-- Forests and the junctions where two branches meet (SCOPE 2.4, 2.5; [QHL]: tree decomposition, hoplinks).
 use mathlib.Core.Path.{_≡_}
 use mathlib.Core.Logic.{_⊎_}
 use mathlib.Core.Option.{Option, none, some}
@@ -17,22 +17,22 @@ module _ (parent : Parents) where
     parent-is : {v : ℕ} → parent v ≡ some u → Above u v
     parent-has : {v w : ℕ} → parent v ≡ some w → Above u w → Above u v
 
-  -- "A junction counts among its own ancestors unless 'proper' is said."
+  -- u is v or a proper ancestor of v
   abbrev pub Ancestor : ℕ → ℕ → Type 0
   Ancestor u v = (u ≡ v) ⊎ Above u v
 
-  -- "a root's being 0"
+  -- How deep v stands, a root at 0
   pub data Depth : ℕ → ℕ → Type 0 where
     root : {v : ℕ} → parent v ≡ none → Depth v zero
     child : {v w d : ℕ} → parent v ≡ some w → Depth w d → Depth v (suc d)
 
-  -- 15: "a parent chain that returns": it meets a junction that is its own proper ancestor
+  -- 15: a chain of parents that comes back: it meets a junction that is its own proper ancestor
   pub record Returns (v : ℕ) : Type 0 where
     pub at : ℕ
     pub met : Ancestor at v
     pub again : Above at at
 
-  -- "The parents form a forest": every chain ends at a root
+  -- A forest: every chain of parents ends at a root
   pub record IsForest : Type 0 where
     pub depth : ℕ → ℕ
     pub ends : (v : ℕ) → Depth v (depth v)
@@ -45,7 +45,7 @@ module _ (parent : Parents) where
     pub of-start : Ancestor u s
     pub of-finish : Ancestor u t
 
-  -- "the deepest common ancestor of s and t"
+  -- The deepest common ancestor of two junctions
   pub record Deepest (s t l : ℕ) : Type 0 where
     pub common : Common s t l
     pub below-all : (u : ℕ) → Common s t u → Ancestor u l
@@ -54,11 +54,11 @@ module _ {𝓛 : Figures} (𝓝 : Network 𝓛) (parent : Parents) where
   open Figures (weights 𝓛) using (Figure as Weight)
   open Network 𝓝 using (Arc)
 
-  -- "each road joins an ancestor and a descendant"
+  -- 16 over the whole network: the ends of each road are ancestor and descendant
   pub record RoadsJoinRelated : Type 0 where
     pub joined : {x y r : ℕ} {w : Weight} → Arc x y r w → Related parent x y
 
-  -- h "has a road to" c "or to a descendant of" c; a one-way road counts in either direction
+  -- h has a road to c or to something below it; a one-way road counts in either direction
   pub record RoadInto (h c : ℕ) : Type 0 where
     pub end : ℕ
     pub below : Ancestor parent c end
@@ -66,13 +66,12 @@ module _ {𝓛 : Figures} (𝓝 : Network 𝓛) (parent : Parents) where
     pub weighs : Weight
     pub arc : Arc h end number weighs ⊎ Arc end h number weighs
 
-  -- Document 02: "The working set of v is v and each proper ancestor that has a road to v or to a descendant of v."
+  -- The working set of v: v, and those of its proper ancestors that have a road to v or to something below it
   pub data WorkingSet (v : ℕ) : ℕ → Type 0 where
     itself : {h : ℕ} → h ≡ v → WorkingSet v h
     crossing : {h : ℕ} → Above parent h v → RoadInto h v → WorkingSet v h
 
-  -- "The hoplinks [...] with l the deepest common ancestor of s and t, neither an ancestor of the other, l and each proper
-  -- ancestor of l that has a road to l or to a descendant of l."
+  -- The hoplinks of two junctions (SCOPE 2.5): the working set of where their branches meet
   pub record Hoplink (s t h : ℕ) : Type 0 where
     pub deepest : ℕ
     pub is-deepest : Deepest parent s t deepest

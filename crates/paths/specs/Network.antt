@@ -1,5 +1,4 @@
--- Networks and paths (document 01: "A path is a walk along roads. Its pair is (sum of times, sum of energies). A junction
--- alone is a path with pair (0,0)."; document 000, section 2).
+-- Networks and paths (SCOPE 2.1; [QHL], section 2).
 --
 -- A network has directed arcs, each with the number of the record it comes from. A two-way road is two arcs with one record
 -- number; parallel roads are arcs that share both ends.
@@ -26,7 +25,7 @@ module _ {𝓛 : Figures} (𝓝 : Network 𝓛) where
   open Figures (weights 𝓛) using (Figure as Weight)
   open Network 𝓝 using (Arc)
 
-  -- "A path is a walk along roads."
+  -- A path: roads walked one after another, none at all for a junction alone
   pub data Walk : ℕ → ℕ → Type 0 where
     stay : {s : ℕ} → Walk s s
     go : {s v t r : ℕ} {w : Weight} → Arc s v r w → Walk v t → Walk s t
@@ -39,7 +38,7 @@ module _ {𝓛 : Figures} (𝓝 : Network 𝓛) where
         {x y r : ℕ} {w : Weight} → Arc x y r w → List·Memᴰ (record { from = x; to = y; number = r; weighs = w }) hops
 
 module _ {𝓛 : Figures} {𝓝 : Network 𝓛} where
-  -- "Its pair is (sum of times, sum of energies). A junction alone is a path with pair (0,0)."
+  -- Its weight: the sum over its roads, zero where there are none
   unfoldable pub weight : {s t : ℕ} → Walk 𝓝 s t → weights 𝓛 .Figure
   weight stay = weights 𝓛 .𝟘
   weight (go {w = w} a rest) = weights 𝓛 ._⊕_ w (weight rest)

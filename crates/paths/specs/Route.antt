@@ -1,5 +1,4 @@
--- Routes (document 01: "Its route is, among paths with that pair, the one whose junction numbers come first when compared
--- place by place from s. Such a path visits no junction twice.").
+-- First routes (SCOPE 2.8).
 use mathlib.Core.Path.{_≡_}
 use mathlib.Core.List.{List, [], _∷_, List·Memᴰ}
 use Prim.Native.Nat.{ℕ, _<_}
@@ -7,13 +6,13 @@ use Rattle.paths.specs.Figures.{Figures}
 use Rattle.paths.specs.Weights.{weights}
 use Rattle.paths.specs.Network.{Network, Walk, weight, junctions}
 
--- "come first when compared place by place": js stands before ks, or is ks
+-- js stands before ks, compared from the first place on, or is ks
 pub data NotAfter : List ℕ → List ℕ → Type 0 where
   ended : {ks : List ℕ} → NotAfter [] ks
   smaller : {j k : ℕ} {js ks : List ℕ} → j < k → NotAfter (j ∷ js) (k ∷ ks)
   equal : {j k : ℕ} {js ks : List ℕ} → j ≡ k → NotAfter js ks → NotAfter (j ∷ js) (k ∷ ks)
 
--- "visits no junction twice"
+-- No junction is met twice
 pub data NoneTwice : List ℕ → Type 0 where
   none : NoneTwice []
   next : {j : ℕ} {js : List ℕ} → (List·Memᴰ j js → ⊥) → NoneTwice js → NoneTwice (j ∷ js)
@@ -28,6 +27,6 @@ module _ {𝓛 : Figures} (𝓝 : Network 𝓛) where
     pub meets : junctions walk ≡ js
     pub first : (other : Walk 𝓝 s t) → Wanted (weight other) → NotAfter js (junctions other)
 
-  -- "among paths with that pair, the one whose junction numbers come first"
+  -- The first route: of all paths with this weight
   abbrev pub FirstRoute : ℕ → ℕ → Weight → List ℕ → Type 0
   FirstRoute s t p js = FirstAmong (λ q. q ≡ p) s t js

@@ -1,4 +1,4 @@
--- Trade-off lists and joins (document 01, "Words"; document 001: skyline paths).
+-- Trade-off lists and joins (SCOPE 2.3, 2.6; [FHL]: skyline paths).
 use mathlib.Core.Path.{_≡_}
 use mathlib.Core.List.{List, [], _∷_, List·Memᴰ}
 use Prim.Native.Nat.{ℕ, _<_}
@@ -9,14 +9,13 @@ use Rattle.paths.specs.Network.{Network, Walk, weight}
 module _ {𝓛 : Figures} (𝓝 : Network 𝓛) where
   open Figures (weights 𝓛) using (Figure as Weight)
 
-  -- "the pair of each path that no path's pair beats"
+  -- An unbeaten weight: a path has it, and no path's weight beats it
   pub record Skyline (s t : ℕ) (p : Weight) : Type 0 where
     pub walk : Walk 𝓝 s t
     pub weighs : weight walk ≡ p
     pub unbeaten : (other : Walk 𝓝 s t) → Beats 𝓛 (weight other) p → ⊥
 
-  -- "The trade-off list of s and t holds the pair of each path that no path's pair beats, each pair once, energy strictly
-  -- rising."
+  -- The trade-off list of s and t (SCOPE 2.3): the unbeaten weights of their paths, each once, in order
   pub record IsTradeOff (s t : ℕ) (l : List Weight) : Type 0 where
     pub rising : Rising 𝓛 l
     pub real : {p : Weight} → List·Memᴰ p l → Skyline s t p
@@ -38,14 +37,13 @@ module _ (𝓛 : Figures) where
     pub sum : IsSum k l p
     pub unbeaten : (q : Weight) → IsSum k l q → Beats 𝓛 q p → ⊥
 
-  -- "The join of two lists holds the unbeaten sums, each once, in the same order."
+  -- The join of two lists (SCOPE 2.6)
   pub record IsJoin (k l r : List Weight) : Type 0 where
     pub rising : Rising 𝓛 r
     pub real : {p : Weight} → List·Memᴰ p r → UnbeatenSum k l p
     pub complete : {p : Weight} → UnbeatenSum k l p → List·Memᴰ p r
 
--- With energy as the one limited figure, "energy strictly rising. Time then strictly falls.": the order in which files and
--- calls hold a list. `proofs/OneLimit.antt` shows that trade-off lists and joins have it.
+-- With energy as the one limited figure, energy rises and time falls: the order in which files and calls hold a list. `proofs/OneLimit.antt` shows that trade-off lists and joins have it.
 pub data Ordered : List (weights energy .Figure) → Type 0 where
   none : Ordered []
   one : {p : weights energy .Figure} → Ordered (p ∷ [])

@@ -1,18 +1,18 @@
--- Weights: a road's or a path's time together with its limited figures (document 01, "Words, and where they come from").
+-- Weights: a road's or a path's time together with its limited figures (SCOPE 1.3, 2.1, 2.2).
 use mathlib.Core.Path.{_≡_}
 use mathlib.Core.List.{List, [], _∷_, List·Memᴰ}
 use Prim.Native.Nat.{ℕ, _<_}
 use Rattle.paths.specs.Figures.{Figures, number, Both, _and_}
 
--- The weights over limited figures 𝓛: listed by 𝓛's order and then by time, as document 01 lists pairs by energy
+-- The weights over limited figures 𝓛: listed by 𝓛's order and then by time, as pairs are listed by energy (SCOPE 2.3)
 abbrev pub weights : Figures → Figures
 weights 𝓛 = 𝓛 and number
 
--- One limited figure: document 01's energy
+-- One limited figure: energy
 abbrev pub energy : Figures
 energy = number
 
--- Document 01's pair (time, energy)
+-- The pair (time, energy)
 abbrev pub pair : ℕ → ℕ → weights energy .Figure
 pair t e = record { first = e; second = t }
 
@@ -35,16 +35,16 @@ module _ (𝓛 : Figures) where
   abbrev pub spent : Weight → 𝓛 .Figure
   spent p = p .first
 
-  -- "Pair p beats q if p is no larger in both numbers and smaller in one."
+  -- p beats q (SCOPE 2.2)
   pub record Beats (p q : Weight) : Type 0 where
     pub no-larger : p ⊑ q
     pub smaller : p ≡ q → ⊥
 
-  -- "energy at most C"
+  -- Within C: not above it
   abbrev pub Within : 𝓛 .Figure → Weight → Type 0
   Within C p = 𝓛 ._⊑_ (spent p) C
 
-  -- "least time; equal times are decided by least energy": p comes before q as an answer
+  -- p comes before q as an answer: by time, then by the limited figures
   pub data Sooner (p q : Weight) : Type 0 where
     by-time : time p < time q → Sooner p q
     by-figures : time p ≡ time q → 𝓛 ._≺_ (spent p) (spent q) → Sooner p q
@@ -54,12 +54,12 @@ module _ (𝓛 : Figures) where
     sooner : Sooner p q → NotLater p q
     same : p ≡ q → NotLater p q
 
-  -- "each pair once, energy strictly rising": each entry stands earlier than the next
+  -- In a list's order, each once: every entry stands earlier than the next
   pub data Rising : List Weight → Type 0 where
     none : Rising []
     one : {p : Weight} → Rising (p ∷ [])
     more : {p q : Weight} {l : List Weight} → p ≺ q → Rising (q ∷ l) → Rising (p ∷ q ∷ l)
 
-  -- p is no smaller than an entry of l: the query search's "entry that covers the pair in question"
+  -- Some entry of l covers p: p is no smaller than it
   abbrev pub Covered : List Weight → Weight → Type 0
   Covered l p = Found (λ q. q ⊑ p) l

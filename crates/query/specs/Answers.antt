@@ -1,5 +1,4 @@
--- The answer to s, t, C (document 01, "The calls": "In a batch a found pair is written with code 0; any other answer writes its
--- code and two zeros (21, 22, 23).").
+-- The answer to s, t and a limit (SCOPE 5.2, 7.2): a number, a time and an energy.
 use mathlib.Core.Path.{_≡_}
 use mathlib.Core.Logic.{_⊎_}
 use mathlib.Core.List.{List}
@@ -8,7 +7,7 @@ use Rattle.paths.specs.Weights.{pair}
 use Rattle.paths.specs.Answer.{Best, Over, Apart}
 use Rattle.network.specs.NetworkFile.{networkOf, junctionsOf}
 
--- "21 s or t is n or more"; "22 no path at all"; "23 paths exist, none within C"; else the best answer under C
+-- 21 off the map, 22 no path, 23 no path within the limit, each with zeros; or the best answer
 pub data Answers (net : List ℕ) (s t C number time units : ℕ) : Type 0 where
   off-map : (junctionsOf net ≤ s) ⊎ (junctionsOf net ≤ t) → number ≡ 21 → time ≡ 0 → units ≡ 0 → Answers net s t C number time units
   not-connected :

@@ -1,4 +1,4 @@
--- Lent slices (document 01: "First places are filled and later ones stay, here and wherever a call writes a list.").
+-- Lent slices (SCOPE 5.4): the first places are filled, later ones stay.
 use mathlib.Core.Path.{_≡_}
 use mathlib.Core.List.{List, _++_}
 use Prim.Native.Nat.{ℕ}

@@ -1,4 +1,4 @@
--- The order of tests (document 01, "Refusal numbers and their order"): the first test that fails gives its number.
+-- The order of tests (SCOPE 4.3): the first test that fails gives its number.
 use mathlib.Core.Bool.{Bool, true, false, _&&_}
 use Prim.Native.Nat.{ℕ, zero, suc}
 
@@ -17,7 +17,7 @@ unfoldable pub every : (ℕ → Bool) → ℕ → Bool
 every test zero = true
 every test (suc n) = every test n && test n
 
--- "the first fault deciding": the first number that is not 0 among fault k, fault (k + 1), …, as many as are left
+-- The first fault decides: the first number that is not 0 among fault k, fault (k + 1), …, as many as are left
 unfoldable pub firstFault : (ℕ → ℕ) → ℕ → ℕ → ℕ
 firstFault fault k zero = 0
 firstFault fault k (suc left) = decided (fault k) (firstFault fault (suc k) left)

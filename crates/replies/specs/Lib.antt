@@ -1,4 +1,4 @@
--- What the program `answer` prints (document 01, "Program `answer`"). Read in this order.
+-- What the program `answer` prints (SCOPE 6). Read in this order.
 pub mod Lines
 pub mod Reply
 pub mod Printed

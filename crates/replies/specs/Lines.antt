@@ -7,7 +7,7 @@ use Rattle.text.specs.Lines.{newlineByte}
 abbrev pub hyphenByte : ℕ
 hyphenByte = 45
 
--- "route with hyphens": each junction after the first stands behind a hyphen
+-- A route: each junction after the first stands behind a hyphen
 unfoldable pub hyphensThen : List ℕ → List ℕ
 hyphensThen [] = []
 hyphensThen (j ∷ js) = hyphenByte ∷ (numeral j ++ hyphensThen js)
@@ -16,7 +16,7 @@ unfoldable pub hyphened : List ℕ → List ℕ
 hyphened [] = []
 hyphened (j ∷ js) = numeral j ++ hyphensThen js
 
--- "or `-`"
+-- Where there is no route
 abbrev pub noRoute : List ℕ
 noRoute = hyphenByte ∷ []
 
@@ -29,12 +29,12 @@ word ␣ rest = word ++ (spaceByte ∷ rest)
 abbrev pub ended : List ℕ → List ℕ
 ended word = word ++ (newlineByte ∷ [])
 
--- "per line s, t, C, number, time, energy, route"
+-- The line of a query
 unfoldable pub answerLine : ℕ → ℕ → ℕ → ℕ → ℕ → ℕ → List ℕ → List ℕ
 answerLine s t C number time units route =
     numeral s ␣ numeral t ␣ numeral C ␣ numeral number ␣ numeral time ␣ numeral units ␣ ended route
 
--- "A bad line prints `- - - 33 0 0 -`."
+-- The line of a line that is no query
 unfoldable pub badLine : List ℕ
 badLine = noRoute ␣ noRoute ␣ noRoute ␣ numeral 33 ␣ numeral 0 ␣ numeral 0 ␣ ended noRoute
 
@@ -48,10 +48,10 @@ labelsWord = 108 ∷ (97 ∷ (98 ∷ (101 ∷ (108 ∷ (115 ∷ [])))))
 abbrev pub refusedWord : List ℕ
 refusedWord = 114 ∷ (101 ∷ (102 ∷ (117 ∷ (115 ∷ (101 ∷ (100 ∷ []))))))
 
--- "It prints `network n m labels E`"
+-- The first line of accepted files
 unfoldable pub headingLine : ℕ → ℕ → ℕ → List ℕ
 headingLine n m E = networkWord ␣ numeral n ␣ numeral m ␣ labelsWord ␣ ended (numeral E)
 
--- "Refused files print one line only: `refused`, a space, the number."
+-- The only line of refused ones
 unfoldable pub refusedLine : ℕ → List ℕ
 refusedLine number = refusedWord ␣ ended (numeral number)

@@ -10,8 +10,8 @@ use Rattle.accepted.specs.Check.{Checked}
 use Rattle.replies.specs.Lines.{headingLine, refusedLine}
 use Rattle.replies.specs.Reply.{Reply}
 
--- The lines that start from byte `from` on and before byte `next` print these bytes. A line starts wherever a byte is left: "a last
--- newline begins no further line".
+-- The lines that start from byte `from` on and before byte `next` print these bytes. A line starts
+-- wherever a byte is left, so none behind a last newline.
 pub data Replies (net input : List ℕ) (from : ℕ) : ℕ → List ℕ → Type 0 where
   none : Replies net input from from []
   more :
@@ -22,7 +22,7 @@ pub data Replies (net input : List ℕ) (from : ℕ) : ℕ → List ℕ → Type
       Reply net (lineOf input next end) reply →
       Replies net input from (suc end) (bytes ++ reply)
 
--- "Refused files print one line only"; else the heading, then a line for each line of the input
+-- Refused files have one line; accepted ones the heading, then a line for each line of the input
 pub data Printed (net s input bytes : List ℕ) : Type 0 where
   refused : {number : ℕ} → Checked net s number → (number ≡ 0 → ⊥) → bytes ≡ refusedLine number → Printed net s input bytes
   answered :

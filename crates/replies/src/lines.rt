@@ -26,7 +26,7 @@ fn put_next(out: &mut [u8], at: usize, junction: u32) -> usize
     put_numeral(out, end, junction)
 }
 
-// "route with hyphens"
+// A route with hyphens.
 pub fn put_route(out: &mut [u8], at: usize, junctions: &[u32; 1024], count: usize) -> usize
     requires { ⌜ (1 ≤ count) × (count ≤ 1024) × (length (now junctions) ≡ 1024) ⌝ }
     requires { ⌜ at + 11264 ≤ length (now out) ⌝ }
@@ -94,7 +94,7 @@ pub fn put_found_line(
     put_byte(out, behind_route, b'\n')
 }
 
-// "A bad line prints `- - - 33 0 0 -`."
+// The line of a line that is no query.
 pub fn put_bad_line(out: &mut [u8], at: usize) -> usize
     requires { ⌜ at + 15 ≤ length (now out) ⌝ }
     ensures { λ r. ⌜ Put (now (out .entry)) at badLine 15 (now (out .exit)) r ⌝ }
@@ -102,7 +102,7 @@ pub fn put_bad_line(out: &mut [u8], at: usize) -> usize
     put_bytes(out, at, b"- - - 33 0 0 -\n")
 }
 
-// "It prints `network n m labels E`"
+// The first line of accepted files.
 pub fn put_heading(out: &mut [u8], junctions: u32, roads: u32, entries: u32) -> usize
     requires { ⌜ 64 ≤ length (now out) ⌝ }
     ensures { λ r. ⌜ Put (now (out .entry)) 0 (headingLine junctions roads entries) 64 (now (out .exit)) r ⌝ }
@@ -115,7 +115,7 @@ pub fn put_heading(out: &mut [u8], junctions: u32, roads: u32, entries: u32) -> 
     put_byte(out, behind_entries, b'\n')
 }
 
-// "Refused files print one line only: `refused`, a space, the number."
+// The only line of refused ones.
 pub fn put_refused(out: &mut [u8], number: u32) -> usize
     requires { ⌜ 64 ≤ length (now out) ⌝ }
     ensures { λ r. ⌜ Put (now (out .entry)) 0 (refusedLine number) 64 (now (out .exit)) r ⌝ }

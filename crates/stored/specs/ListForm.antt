@@ -1,4 +1,4 @@
--- What the lists of a label file are refused by, 11 and 17 (document 01, "Refusal numbers and their order").
+-- What the lists of a label file are refused by, 11 and 17 (SCOPE 3.3, 4.3).
 use mathlib.Core.Bool.{Bool, true, _&&_}
 use mathlib.Core.List.{List}
 use Prim.Native.Nat.{ℕ, zero, suc}
@@ -16,11 +16,11 @@ mostBytes = 4194304
 abbrev pub mostCount : ℕ
 mostCount = 4095
 
--- "each 1 to 67,042,305 (1,023 × 65,535)"
+-- The most that 1,023 roads can take
 abbrev pub mostFigure : ℕ
 mostFigure = 67042305
 
--- "energy strictly rising and time strictly falling"; the first entry of a list has none before it
+-- Energy rises and time falls; the first entry of a list has none before it
 abbrev pub timeFollows : List ℕ → ℕ → ℕ → Bool
 timeFollows labels at zero = true
 timeFollows labels at (suc j) = ltb (timeAt labels at (suc j)) (timeAt labels at j)
@@ -36,7 +36,7 @@ unfoldable pub energyFits : List ℕ → ℕ → ℕ → Bool
 energyFits labels at j =
     leb (leastEnergy (versionOf labels)) (energyAt labels at j) && leb (energyAt labels at j) mostFigure && energyFollows labels at j
 
--- "counts and numbers one by one in byte order, the first fault deciding: one cut off gives 11, one that breaks a rule 17"
+-- Number by number as they stand in the file: 11 for one that is cut off, 17 for one that breaks its rule
 unfoldable pub entryNumber : List ℕ → ℕ → ℕ → ℕ
 entryNumber labels at j =
     unless (leb (timeEnd at j) (length labels)) 11

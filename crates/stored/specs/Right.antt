@@ -1,5 +1,4 @@
--- What an accepted label set is (document 01: "Number 18 is given exactly if all before it pass and a list differs from the
--- definition."; demand 2: "each stored list is the complete trade-off list of its two junctions").
+-- When labels are right (SCOPE 2.9, 4.4).
 use mathlib.Core.List.{List}
 use Prim.Native.Nat.{ℕ}
 use Rattle.paths.specs.TradeOff.{IsTradeOff}

@@ -1,5 +1,4 @@
--- Where each stored list stands, and what it holds (document 01: "Then for junctions 0 to n−1, for each proper ancestor from the
--- parent upward: a 16-bit count, 0 to 4,095, and that many entries").
+-- Where each stored list stands, and what it holds (SCOPE 3.3).
 use mathlib.Core.List.{List, [], _∷_}
 use Prim.Native.Nat.{ℕ, zero, suc, _+_, _-_}
 use Rattle.paths.specs.Weights.{weights, energy, pair}

@@ -1,4 +1,4 @@
--- Lines (document 01: "newline or end of input after; a last newline begins no further line").
+-- Lines (SCOPE 6.2).
 use mathlib.Core.Path.{_≡_}
 use mathlib.Core.List.{List}
 use Prim.Native.Nat.{ℕ, _-_, _≤_, _<_}

@@ -1,5 +1,4 @@
--- Decimal numbers (document 01, "Program `answer`": "three decimal numbers up to 4,294,967,295, no leading zeros, one space
--- between [...]. All text read, here or later, keeps these rules of numbers, spaces and line ends.").
+-- Decimal numbers (SCOPE 6.2).
 use mathlib.Core.Path.{_≡_}
 use mathlib.Core.Bool.{cond}
 use mathlib.Core.List.{List, [], _∷_, List·Memᴰ}

@@ -1,10 +1,10 @@
--- Query lines (document 01, "Program `answer`": "three decimal numbers up to 4,294,967,295, no leading zeros, one space between").
+-- Query lines (SCOPE 6.2).
 use mathlib.Core.Path.{_≡_}
 use mathlib.Core.List.{List, _∷_, _++_}
 use Prim.Native.Nat.{ℕ}
 use Rattle.text.specs.Numbers.{IsNumeral, spaceByte}
 
--- A query line: three numbers, "one space between"
+-- A query line: three numbers, one space between two
 pub record IsQuery (line : List ℕ) (s t C : ℕ) : Type 0 where
   pub first : List ℕ
   pub second : List ℕ
@@ -14,6 +14,6 @@ pub record IsQuery (line : List ℕ) (s t C : ℕ) : Type 0 where
   pub second-is : IsNumeral second t
   pub third-is : IsNumeral third C
 
--- "33 query text line badly formed"
+-- 33: a line that is no query
 abbrev pub BadLine : List ℕ → Type 0
 BadLine line = (s t C : ℕ) → IsQuery line s t C → ⊥

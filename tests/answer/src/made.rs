@@ -34,7 +34,7 @@ fn case(note: &str, network: Entry, labels: Entry, input: impl Into<Vec<u8>>) ->
     }
 }
 
-/// Document 01's network A.
+/// Network A.
 fn a() -> (Vec<u8>, Vec<u8>) {
     let set = generate::fixed::network_a().set();
     (set.network, set.labels)

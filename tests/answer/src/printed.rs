@@ -1,4 +1,4 @@
-//! What the program prints, from document 01's section on it and the model's answers.
+//! What the program prints, from docs/SCOPE.md, 6, and the model's answers.
 
 use model::calls::{Calls, RouteAnswer};
 use model::exact::accept;

@@ -1,6 +1,6 @@
 //! Cores with a fault each, made from the model: the driver must find every one of them.
 //!
-//! Among them are the traps and the cheats that document 01 names.
+//! Among them are the traps and the cheats that docs/STATEMENTS.md names.
 
 use compare::driver::{Met, run_set};
 use generate::fixed::NAMED_SETS;

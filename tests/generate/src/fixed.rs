@@ -1,4 +1,4 @@
-//! Sets that stand at the beginning of every run: document 01's examples, every cut and one change of
+//! Sets that stand at the beginning of every run: the worked examples, every cut and one change of
 //! every byte of a small file, and the limits of the form.
 
 use model::forest::Parents;
@@ -16,7 +16,7 @@ pub fn set(index: usize) -> Option<Set> {
         return Some(named());
     }
     let index = index - NAMED.len();
-    let whole = network_a().noted("document 01's network A", 0);
+    let whole = network_a().noted("network A", 0);
     let bytes = whole.network.len() + whole.labels.len();
     if index < bytes {
         return Some(cut(whole, index));
@@ -29,10 +29,10 @@ pub fn set(index: usize) -> Option<Set> {
 pub const NAMED_SETS: usize = NAMED.len();
 
 const NAMED: [fn() -> Set; 20] = [
-    || network_a().noted("document 01's network A", 0).asked(0, 3),
+    || network_a().noted("network A", 0).asked(0, 3),
     a_without_frugal_entry,
     a_without_frugal_entry_and_total,
-    || square().noted("document 01's square", 0).asked(0, 3),
+    || square().noted("the square", 0).asked(0, 3),
     || unjoined(1).noted("one junction", 0),
     || {
         unjoined(2)
@@ -148,7 +148,7 @@ fn changed(whole: Set, index: usize) -> Set {
     set
 }
 
-/// The sizes that document 01 gives for A: 64 and 154 bytes, 14 entries.
+/// The sizes of network A: 64 and 154 bytes, 14 entries.
 pub fn sizes_of_a() -> (usize, usize, usize) {
     let right = network_a();
     let network = files::network_bytes(&right.network);

@@ -8,7 +8,7 @@
 //! - [`networks`], [`forests`], [`right`]: right sets
 //! - [`files`]: their bytes, and where each number of a label file lies
 //! - [`damage`]: sets that are wrong in one way, or in several
-//! - [`fixed`], [`large`]: document 01's examples, every cut of a small file, the limits of the form
+//! - [`fixed`], [`large`]: the worked examples, every cut of a small file, the limits of the form
 //! - [`lists`]: lists to join
 
 pub mod damage;

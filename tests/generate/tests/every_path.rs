@@ -55,7 +55,7 @@ fn beats(one: Pair, other: Pair) -> bool {
     one.time <= other.time && one.energy <= other.energy && one != other
 }
 
-/// Document 01's sentence: the pair of each path that no path's pair beats, each pair once, energy
+/// The trade-off list in words: the pair of each path that no path's pair beats, each once, energy
 /// rising.
 fn trade_off_list(paths: &[Path]) -> List {
     let mut list: List = paths.iter().map(|path| path.pair).collect();

@@ -116,7 +116,7 @@ fn read_list(reader: &mut Reader) -> Result<List, Number> {
     }
     let mut list = List::new();
     for _ in 0..count {
-        // The time is judged before the energy is read: document 01 takes them in byte order.
+        // The time is judged before the energy is read: docs/SCOPE.md, 4.3, takes them in byte order.
         let time = reader.u32()?;
         if !(1..=MOST_TAKEN).contains(&time) {
             return Err(17);

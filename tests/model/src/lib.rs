@@ -1,4 +1,4 @@
-//! The route planner's calls, written a second time straight from document 01.
+//! The route planner's calls, written a second time straight from docs/SCOPE.md.
 //!
 //! Nothing here is shared with the verified core or shaped after it: trade-off lists come from a
 //! search over the roads and never from labels, routes from a search over what is left to spend.
@@ -23,5 +23,5 @@ pub mod route;
 pub mod search;
 pub mod units;
 
-/// A refusal number of document 01; success is 0 and never travels as one of these.
+/// A refusal number of docs/SCOPE.md, 4.2; success is 0 and never travels as one of these.
 pub type Number = u32;

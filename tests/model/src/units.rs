@@ -11,7 +11,7 @@ pub struct Energy(pub u32);
 /// What a path takes: the sum of its times and the sum of its energies.
 ///
 /// The fields stand in the order in which lists are sorted, so the derived order is theirs:
-/// energy first, then time. Files and document 01 write the time first.
+/// energy first, then time. Files and docs/SCOPE.md write the time first.
 #[derive(Clone, Copy, Debug, PartialEq, Eq, PartialOrd, Ord, Hash)]
 pub struct Pair {
     pub energy: Energy,

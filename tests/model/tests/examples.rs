@@ -1,4 +1,4 @@
-//! Document 01's examples, with bytes written out by hand here and nowhere generated.
+//! The worked examples of docs/SCOPE.md, with bytes written out by hand here and nowhere generated.
 
 use model::calls::{Calls, Columns};
 use model::planner::Model;

@@ -3,7 +3,7 @@ use Prim.Native.Nat.{ℕ}
 use Rattle.query.specs.declared.Answer.{Answer}
 use Rattle.query.specs.declared.Answer.the-variants as case
 
--- The number, the time and the energy of an answer: "Every refusal carries zeros beside its number"
+-- The number, the time and the energy of an answer, zeros beside a refusal (SCOPE 4.1)
 abbrev pub numberOf : Answer → ℕ
 numberOf (case.Found time units) = 0
 numberOf case.OffMap = 21

@@ -17,7 +17,7 @@ use Rattle.text.specs.declared.read.Number.the-variants as number
 abbrev pub mostNumber : ℕ
 mostNumber = 4294967295
 
--- "Digits, the space and the newline are told apart; every other byte spoils its line"
+-- Digits, the space and the newline are told apart; any other byte spoils its line
 pub data KindOf (byte : ℕ) (r : Kind) : Type 0 where
   digit : IsDigit byte → r ≡ kind.Digit (byte - zeroByte) → KindOf byte r
   space : byte ≡ spaceByte → r ≡ kind.Space → KindOf byte r

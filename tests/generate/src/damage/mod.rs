@@ -1,6 +1,6 @@
 //! Sets that are wrong in one way or in several, mostly with the number that the check must give.
 //!
-//! Damage of several kinds is laid on from the last test of document 01's order to the first, so the
+//! Damage of several kinds is laid on from the last test of the order in docs/SCOPE.md, 4.3 to the first, so the
 //! layer laid on last decides the number.
 
 mod exact;
