@@ -50,6 +50,10 @@ timeEnd at j = at + 6 + 8 * j
 abbrev pub energyEnd : ℕ → ℕ → ℕ
 energyEnd at j = at + 10 + 8 * j
 
+-- How many bytes a list of two entries takes
+abbrev pub shortBytes : ℕ
+shortBytes = 18
+
 -- Where the next list starts
 unfoldable pub listEnd : List ℕ → ℕ → ℕ
 listEnd labels at = entriesEnd at (countAt labels at)

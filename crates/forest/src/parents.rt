@@ -13,9 +13,9 @@ ghost use mathlib.Core.Bool.{true};
 ghost use Prim.Native.Nat.{_+_, _*_, _≤_, _<_};
 ghost use lib.ListN.{length};
 ghost use Rattle.refusals.specs.Order.{every};
-ghost use Rattle.bytes.specs.working.Reads.{ReadU16};
+ghost use Rattle.bytes.specs.working.Reads.{Read16};
 ghost use Rattle.network.specs.NetworkFile.{junctionsOf, roadsOf};
-ghost use Rattle.forest.specs.LabelFile.{entriesOf, listsFrom};
+ghost use Rattle.forest.specs.LabelFile.{entriesOf, parentAt, listsFrom};
 ghost use Rattle.forest.specs.Forest.{depthOf, parentFits, isAncestor, roadJoins};
 ghost use Rattle.forest.specs.working.Fits.{ParentsFit, DepthsFilled};
 ghost use Rattle.network.specs.working.Fits.{NetworkFits};
@@ -25,7 +25,7 @@ pub const NO_PARENT: u32 = 65535;
 
 pub fn parent_at(labels: &[u8], v: usize) -> u32
     requires { ⌜ 18 + 2 * v ≤ length (now labels) ⌝ }
-    ensures { λ r. ⌜ ReadU16 (now (labels .entry)) (16 + 2 * v) r ⌝ }
+    ensures { λ r. ⌜ Read16 (parentAt (now (labels .entry)) v) r ⌝ }
 {
     u16_at(labels, 16 + 2 * v)
 }

@@ -1,5 +1,6 @@
 // Runs of short lists, passed with few tests: lists of one entry each, and lists of at most two. A list that ends a run is left to the whole test.
 use crate::stored::MOST_FIGURE;
+use crate::stored::SHORT_BYTES;
 use crate::stored::count_at;
 use crate::stored::energy_at;
 use crate::stored::energy_fits;
@@ -18,9 +19,6 @@ ghost use Rattle.forest.specs.LabelFile.{energyEnd};
 ghost use Rattle.stored.specs.ListForm.{mostBytes, mostCount, entryNumber};
 ghost use Rattle.stored.specs.working.Scanned.{PassedSome};
 ghost use Rattle.stored.specs.working.Runs.{Flagged, EnergyFollows, Leading, SingleList, Quick, OneMore};
-
-// A count and two entries.
-const SHORT_BYTES: usize = 18;
 
 // Lists that are passed one after another, none with a fault: how many, the byte behind them, and the entries counted.
 pub struct Run {

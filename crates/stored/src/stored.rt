@@ -31,6 +31,9 @@ const LEAST_TIME: u32 = 1;
 
 pub const MOST_FIGURE: u32 = 67042305;
 
+// A count and two entries.
+pub const SHORT_BYTES: usize = 18;
+
 // How many entries the list at a byte has.
 pub fn count_at(labels: &[u8], at: usize) -> u32
     requires { ⌜ countEnd at ≤ length (now labels) ⌝ }

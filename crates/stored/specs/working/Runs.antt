@@ -2,7 +2,7 @@
 use mathlib.Core.Path.{_≡_}
 use mathlib.Core.List.{List}
 use Prim.Native.Nat.{ℕ, _+_, _*_, _≤_, _<_}
-use Rattle.forest.specs.LabelFile.{countAt, entriesEnd}
+use Rattle.forest.specs.LabelFile.{countAt, entriesEnd, shortBytes}
 use Rattle.stored.specs.ListForm.{mostFigure, entryNumber, listNumber}
 
 -- At most 1, and 1 only if the fact holds
@@ -28,7 +28,7 @@ pub record SingleList (labels : List ℕ) (at : ℕ) : Type 0 where
 -- r of the lists stand in so many bytes, if none has more than two entries
 pub record Quick (bytes lists r : ℕ) : Type 0 where
   pub few : r ≤ lists
-  pub inside : 18 * r ≤ bytes
+  pub inside : shortBytes * r ≤ bytes
 
 -- A run of lists and one list more, of so many entries
 pub record OneMore (lists at total count : ℕ) (more behind sum : ℕ) : Type 0 where
