@@ -1,11 +1,11 @@
-//! `answer [PROGRAM] [SEED]`: runs every case on the program, ../../target/bin/answer unless said otherwise, and ends at the first that is
+//! `bushelvane-answer-cases [PROGRAM] [SEED]`: runs every case on the program, ../../target/bin/answer unless said otherwise, and ends at the first that is
 //! not printed as it must be. Its folder is then kept.
 
 use std::env;
 use std::path::PathBuf;
 use std::process::ExitCode;
 
-use answer::{made, run, stored};
+use answer_cases::{made, run, stored};
 
 fn main() -> ExitCode {
     let here = PathBuf::from(env!("CARGO_MANIFEST_DIR"));

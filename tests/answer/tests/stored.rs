@@ -1,7 +1,7 @@
 //! What is expected of made cases comes from the model: it must print what the stored cases have.
 
-use answer::printed::printed;
-use answer::{made, stored};
+use answer_cases::printed::printed;
+use answer_cases::{made, stored};
 
 #[test]
 fn the_model_prints_what_the_stored_cases_have() {

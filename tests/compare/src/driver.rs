@@ -91,7 +91,7 @@ fn report(
         set.note
     );
     text += &format!(
-        "replay: cd tests/compare && cargo run --release --features library -- --seed {seed} --only {index}\n"
+        "replay: cargo run --release --package bushelvane-compare --features library -- --seed {seed} --only {index}\n"
     );
     let record = write_record(&planned.call, wanted);
     if files.network.len() + files.labels.len() + record.len() <= MOST_PRINTED {

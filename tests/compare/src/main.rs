@@ -8,8 +8,8 @@ use model::calls::Calls;
 use model::planner::Model;
 
 const USAGE: &str = "\
-compare [--sets N] [--seed S] [--only INDEX] [--model-only]
-compare --vectors FILE [--model-only]
+bushelvane-compare [--sets N] [--seed S] [--only INDEX] [--model-only]
+bushelvane-compare --vectors FILE [--model-only]
 
 Runs N label sets (20000 if not given) of seed S (1 if not given) on the model and on the library,
 or set INDEX alone; with --vectors, the recorded calls of FILE on the library. With --model-only a
