@@ -16,31 +16,38 @@
  * Answers
  *   Each call but bushelvane_show gives a number: 0 for success, or why it refuses. A refusal carries zeros beside its number and
  *   leaves every lent place as it was. Success fills the first places of what it writes, and later places stay as they were.
- *   Where several numbers apply, the first in the order of this table is given; what it leaves open is said below it.
  *
- *   number   given when
- *   31       batch: length no multiple of 3, or above 3,072
- *   32       batch: answers not as long as the queries
- *   1        network: under 16 bytes, or not 16 + 8m
- *   2, 3, 4  network: mark or byte 5; version; n or m out of range
- *   5, 6     network: ends not lower < higher < n, or a record not after the one before; time or energy 0
- *   11       labels: too short, too long or with bytes left
- *   12, 13   labels: mark or byte 5; version
- *   14       labels: n or identity differs from the network
- *   15       a parent not below n and not 65,535, or a parent chain that returns
- *   16       a road whose ends are not ancestor and descendant
- *   17       a count, an entry or E against the rules
- *   18       some list is not the trade-off list of its pair
- *   41       join: a list's two slices differ in length (of either list, before 42 of either)
- *   42       join: a list over 4,095 entries, a number above 1,073,741,823, or the order broken
- *   21       s or t is n or more
- *   22       no path at all
- *   23       paths exist, none within the limit; limited join: no sum within the limit
+ *   number   reason
+ *   1        the network is shorter than a header, or its length is not that of m records
+ *   2        the network's mark, or its byte 5
+ *   3        the network's version is not served
+ *   4        n or m is out of range
+ *   5        a record's ends are no lower and higher junction, or it does not stand after the one before it
+ *   6        a road takes no time, or less energy than its version asks
+ *   11       the labels are too short, too long, or go on behind their last list
+ *   12       the labels' mark, or their byte 5
+ *   13       the labels' version is not served
+ *   14       n or the identity is not the network's; without a network: n is out of range
+ *   15       a parent is neither a junction nor 65,535, or a chain of parents comes back
+ *   16       a road's ends are not ancestor and descendant
+ *   17       a count, an entry's number, or E breaks its rule
+ *   18       a stored list is not the trade-off list of its two junctions
+ *   21       a junction that is asked for is not on the map
+ *   22       no path joins the two junctions
+ *   23       paths join them, but none is within the limit; in a limited join: no sum is
  *   24       the answer needs more places than were lent
+ *   31       a batch's length is not a multiple of 3, or is above 3,072
+ *   32       the answers of a batch have not the batch's length
+ *   41       the two slices of a list differ in length
+ *   42       a list to be joined has more than 4,095 entries, a number above 1,073,741,823, or breaks the order
  *
- *   1 for a length other than 16 + 8m comes after 4. Records go in file order, 5 before 6 in each. 11 for under 16 bytes or over
- *   4,194,304 comes first, 11 for cut off parents after 14. Within the lists numbers go in byte order: one cut off gives 11, one that
- *   breaks a rule 17. After the last list come 11 for bytes left, 17 for a wrong E, then 18.
+ *   A header has 16 bytes, a record of the network 8; docs/SCOPE.md, 3, has both files byte by byte.
+ *   Where several numbers apply the first in this order is given. The shape of a batch: 31, 32. The network: 1 if it is shorter than a
+ *   header, then 2, 3, 4, then 1 for its whole length, then record by record, 5 before 6. The labels: 11 if they are shorter than a header
+ *   or longer than 4,194,304 bytes, then 12, 13, 14, then 11 if the parents are cut off, 15 over all parents, 16 over all roads, then the
+ *   lists number by number as they stand: one that is cut off is 11, one that breaks its rule 17. Behind the last list: 11 for bytes left
+ *   over, then 17 for a wrong E. Last of all 18. Of a question: 21, 22, 23, 24. Of a join: 41 of either list before 42 of either, then 24,
+ *   or 23 for a limited join.
  *
  * Remarks
  *   No call takes memory from the heap, keeps state between calls or fails to return: calls from several threads do not meet.

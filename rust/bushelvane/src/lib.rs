@@ -7,16 +7,30 @@
 //! Each call but [`show`] gives a number: 0 for success, or why it refuses. A refusal carries zeros beside its number and leaves
 //! every lent place as it was. Success fills the first places of what it writes, and later places stay as they were.
 //!
-//! | number | given when |
+//! | number | reason |
 //! |---|---|
-//! | 1 – 6 | network: length; mark; version; n or m; ends or order of a record; time or energy 0 |
-//! | 11 – 14 | labels: length; mark; version; n or identity differs |
-//! | 15, 16 | a parent out of range or a chain that returns; a road whose ends are not ancestor and descendant |
-//! | 17, 18 | a count, an entry or E against the rules; a list that is not the trade-off list of its pair |
-//! | 21, 22, 23 | a junction off the map; no path; no path (or sum) within the limit |
-//! | 24 | more places needed than lent |
-//! | 31, 32 | batch length; answer length |
-//! | 41, 42 | join: two slices of a list differ in length; a list out of form |
+//! | 1 | the network is shorter than a header, or its length is not that of m records |
+//! | 2 | the network's mark, or its byte 5 |
+//! | 3 | the network's version is not served |
+//! | 4 | n or m is out of range |
+//! | 5 | a record's ends are no lower and higher junction, or it does not stand after the one before it |
+//! | 6 | a road takes no time, or less energy than its version asks |
+//! | 11 | the labels are too short, too long, or go on behind their last list |
+//! | 12 | the labels' mark, or their byte 5 |
+//! | 13 | the labels' version is not served |
+//! | 14 | n or the identity is not the network's; without a network: n is out of range |
+//! | 15 | a parent is neither a junction nor 65,535, or a chain of parents comes back |
+//! | 16 | a road's ends are not ancestor and descendant |
+//! | 17 | a count, an entry's number, or E breaks its rule |
+//! | 18 | a stored list is not the trade-off list of its two junctions |
+//! | 21 | a junction that is asked for is not on the map |
+//! | 22 | no path joins the two junctions |
+//! | 23 | paths join them, but none is within the limit; in a limited join: no sum is |
+//! | 24 | the answer needs more places than were lent |
+//! | 31 | a batch's length is not a multiple of 3, or is above 3,072 |
+//! | 32 | the answers of a batch have not the batch's length |
+//! | 41 | the two slices of a list differ in length |
+//! | 42 | a list to be joined has more than 4,095 entries, a number above 1,073,741,823, or breaks the order |
 //!
 //! The static library must be built first (`rt staticlib labels_c`). It is looked for in `target/staticlib` of the project around
 //! this crate, or in the folder that the variable `BUSHELVANE_LIB_DIR` names. A call takes up to 128 KB of stack, and no heap.
