@@ -77,7 +77,7 @@ typedef struct {
     uint32_t time;
     uint32_t energy;
     uint32_t count;
-} bushelvane_route_answer;
+} bushelvane_best_route;
 
 /* A number and, if it is 0, how many entries were written. */
 typedef struct {
@@ -111,7 +111,7 @@ uint32_t bushelvane_batch(
  * The best pair from s to t within the limit, and its route: of all paths with that pair the one whose junction numbers come first
  * when compared place by place from s. Refuses by the check's numbers, 21, 22, 23 or 24. No route has more than 1,024 junctions.
  */
-bushelvane_route_answer bushelvane_route(
+bushelvane_best_route bushelvane_route(
     const uint8_t *network, size_t network_length,
     const uint8_t *labels, size_t labels_length,
     uint32_t s, uint32_t t, uint32_t limit,

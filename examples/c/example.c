@@ -128,7 +128,7 @@ static void show_batch(const file *network, const file *labels) {
 
 static void show_route(const file *network, const file *labels, uint32_t limit, size_t room) {
     uint32_t junctions[6] = {9, 9, 9, 9, 9, 9};
-    bushelvane_route_answer answer = bushelvane_route(
+    bushelvane_best_route answer = bushelvane_route(
         network->bytes, network->length, labels->bytes, labels->length, 0, 4, limit, junctions, room);
     printf("route 0 to 4 within %" PRIu32 ", room %zu: number %" PRIu32 ", time %" PRIu32 ", energy %" PRIu32 ", %" PRIu32 " junctions\n ",
            limit, room, answer.number, answer.time, answer.energy, answer.count);

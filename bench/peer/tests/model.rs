@@ -2,7 +2,7 @@
 
 use compare::driver::{Met, run_set};
 use compare::vectors;
-use model::calls::{Best, Calls, Columns, Count, Part, RouteAnswer};
+use model::calls::{Best, BestRoute, Calls, Columns, Count, Part};
 use model::planner::Model;
 use peer::Accepted;
 
@@ -19,7 +19,7 @@ fn find_route(
     (network, labels): (&[u8], &[u8]),
     query: [u32; 3],
     places: &mut [u32],
-) -> Result<RouteAnswer, u32> {
+) -> Result<BestRoute, u32> {
     let set = Accepted::new(network, labels)?;
     let mut answer = [0; 3];
     set.answer_all(&query, &mut answer);
@@ -32,7 +32,7 @@ fn find_route(
     let count = set.route(s, t, (time, energy), &mut junctions);
     let places = places.get_mut(..count).ok_or(24u32)?;
     places.copy_from_slice(&junctions[..count]);
-    Ok(RouteAnswer {
+    Ok(BestRoute {
         number,
         time,
         energy,
@@ -96,11 +96,11 @@ impl Calls for Peer {
         labels: &[u8],
         query: [u32; 3],
         junctions: &mut [u32],
-    ) -> RouteAnswer {
+    ) -> BestRoute {
         let found = find_route((network, labels), query, junctions);
-        found.unwrap_or_else(|number| RouteAnswer {
+        found.unwrap_or_else(|number| BestRoute {
             number,
-            ..RouteAnswer::default()
+            ..BestRoute::default()
         })
     }
 

@@ -71,7 +71,7 @@ pub struct Best {
 /// The pair of a route and how many junctions it has, or the number of a refusal beside zeros.
 #[repr(C)]
 #[derive(Clone, Copy, Debug, PartialEq, Eq)]
-pub struct RouteAnswer {
+pub struct BestRoute {
     /// 0, or why there is no route.
     pub number: u32,
     /// Seconds.
@@ -159,7 +159,7 @@ pub fn route(
     t: u32,
     limit: u32,
     junctions: &mut [u32],
-) -> RouteAnswer {
+) -> BestRoute {
     // SAFETY: slices, see above.
     unsafe {
         raw::bushelvane_route(

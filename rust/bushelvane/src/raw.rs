@@ -4,7 +4,7 @@
 //! each pointer is aligned and not null, so many elements can be read behind it, and written if it is `*mut`; a slice that
 //! is written overlaps no other; and all of this lasts until the call returns. No pointer is kept after it.
 
-use crate::{Best, Count, RouteAnswer};
+use crate::{Best, BestRoute, Count};
 
 /// Bytes of the labels; the empty part has length 0.
 #[repr(C)]
@@ -42,7 +42,7 @@ unsafe extern "C" {
         limit: u32,
         junctions: *mut u32,
         junctions_length: usize,
-    ) -> RouteAnswer;
+    ) -> BestRoute;
 
     pub fn bushelvane_list(
         network: *const u8,

@@ -1,6 +1,6 @@
 //! What the program prints, from docs/SCOPE.md, 6, and the model's answers.
 
-use model::calls::{Calls, RouteAnswer};
+use model::calls::{BestRoute, Calls};
 use model::exact::accept;
 use model::network::MOST_JUNCTIONS;
 use model::planner::Model;
@@ -84,7 +84,7 @@ fn number(digits: &[u8]) -> Option<u32> {
 
 fn answered(model: &mut Model, network: &[u8], labels: &[u8], query: [u32; 3]) -> String {
     let mut junctions = [0; MOST_JUNCTIONS];
-    let RouteAnswer {
+    let BestRoute {
         number,
         time,
         energy,

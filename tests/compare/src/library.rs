@@ -1,6 +1,6 @@
 //! The verified library as a core.
 
-use model::calls::{Best, Calls, Columns, Count, Part, RouteAnswer};
+use model::calls::{Best, BestRoute, Calls, Columns, Count, Part};
 
 /// The library behind its C interface; it remembers nothing between calls.
 pub struct Library;
@@ -40,9 +40,9 @@ impl Calls for Library {
         labels: &[u8],
         [s, t, limit]: [u32; 3],
         junctions: &mut [u32],
-    ) -> RouteAnswer {
+    ) -> BestRoute {
         let answer = bushelvane::route(network, labels, s, t, limit, junctions);
-        RouteAnswer {
+        BestRoute {
             number: answer.number,
             time: answer.time,
             energy: answer.energy,

@@ -4,7 +4,7 @@
 use generate::Set;
 use generate::lists::{Lent, lists};
 use generate::random::Random;
-use model::calls::{Calls, Columns, RouteAnswer};
+use model::calls::{BestRoute, Calls, Columns};
 use model::forest::proper_ancestors;
 use model::join::join;
 use model::labels;
@@ -172,7 +172,7 @@ impl Planner<'_> {
     }
 
     /// The model's answer with all the room that a route can take.
-    fn route(&mut self, query: [u32; 3]) -> (RouteAnswer, Vec<u32>) {
+    fn route(&mut self, query: [u32; 3]) -> (BestRoute, Vec<u32>) {
         let (network, labels) = (&self.set.network, &self.set.labels);
         let mut junctions = vec![0; 1_024];
         let answer = self.model.route(network, labels, query, &mut junctions);

@@ -4,7 +4,7 @@
 
 use compare::driver::{Met, run_set};
 use generate::fixed::NAMED_SETS;
-use model::calls::{Best, Calls, Columns, Count, Part, RouteAnswer};
+use model::calls::{Best, BestRoute, Calls, Columns, Count, Part};
 use model::planner::Model;
 
 const SETS: usize = 3_000;
@@ -131,7 +131,7 @@ impl Calls for Wrong {
         labels: &[u8],
         query: [u32; 3],
         junctions: &mut [u32],
-    ) -> RouteAnswer {
+    ) -> BestRoute {
         let [s, t, limit] = query;
         let before = junctions.to_vec();
         let mut answer = self.model.route(network, labels, query, junctions);

@@ -18,7 +18,7 @@ pub struct Best {
 }
 
 #[derive(Clone, Copy, Debug, Default, PartialEq, Eq)]
-pub struct RouteAnswer {
+pub struct BestRoute {
     pub number: u32,
     pub time: u32,
     pub energy: u32,
@@ -51,7 +51,7 @@ pub trait Calls {
         labels: &[u8],
         query: [u32; 3],
         junctions: &mut [u32],
-    ) -> RouteAnswer;
+    ) -> BestRoute;
 
     fn list(
         &mut self,

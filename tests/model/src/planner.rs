@@ -1,7 +1,7 @@
 //! The model as a core: the order of the refusals around the answers, and the lent places.
 
 use crate::Number;
-use crate::calls::{Best, Calls, Columns, Count, Part, RouteAnswer};
+use crate::calls::{Best, BestRoute, Calls, Columns, Count, Part};
 use crate::exact::accept;
 use crate::join;
 use crate::labels::{self, stored};
@@ -152,7 +152,7 @@ impl Calls for Model {
         labels: &[u8],
         query: [u32; 3],
         junctions: &mut [u32],
-    ) -> RouteAnswer {
+    ) -> BestRoute {
         let found = self
             .accept(network, labels)
             .and_then(|network| find_route(network, query, junctions.len()));
@@ -161,16 +161,16 @@ impl Calls for Model {
                 for (place, junction) in junctions.iter_mut().zip(&route) {
                     *place = *junction as u32;
                 }
-                RouteAnswer {
+                BestRoute {
                     number: 0,
                     time: pair.time.0,
                     energy: pair.energy.0,
                     count: route.len() as u32,
                 }
             }
-            Err(number) => RouteAnswer {
+            Err(number) => BestRoute {
                 number,
-                ..RouteAnswer::default()
+                ..BestRoute::default()
             },
         }
     }
