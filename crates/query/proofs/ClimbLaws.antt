@@ -1,5 +1,5 @@
 -- Two climbs side by side, each list place with its ancestor. In this order: one climb; two climbs; climbs from the table of depths.
-use mathlib.Core.Path.{_≡_, refl, sym, ap, _∙_}
+use mathlib.Core.Path.{_≡_, sym, ap, _∙_}
 use mathlib.Core.Logic.{_⊎_, inl, inr, ⊎-elim}
 use mathlib.Core.List.{List}
 use Prim.Native.Nat.{ℕ, suc, _+_, _-_, _*_, _≤_, _<_}
@@ -14,15 +14,14 @@ use Rattle.forest.specs.Forest.{depthOf, ancestorOf}
 use Rattle.forest.specs.working.Fits.{DepthsFilled}
 use Rattle.forest.proofs.Chains.{ancestor-none, ancestor-more, Climbed, climbed}
 use Rattle.forest.proofs.Forest.{ancestor-at, ancestor-is-up, above-is-up}
-use Rattle.stored.specs.Stored.{placeOf, listPlace}
+use Rattle.stored.specs.Stored.{placeOf}
 use Rattle.stored.specs.working.Formed.{Formed, StartsFilled, ListFits}
 use Rattle.hoplinks.proofs.Branches.{no-deeper, stays-above}
 use Rattle.query.specs.declared.Between.{Between}
 use Rattle.query.specs.declared.climbing.Climb.{Climb}
-use Rattle.query.specs.working.Levels.{behind}
 use Rattle.query.specs.working.Between.{Climbs, Steps, Abreast, ListsBetween, Leads}
 use Rattle.query.proofs.ListPlaces.{count-stands}
-use Rattle.query.proofs.MarkedSums.{level-next, level-fits, level-place}
+use Rattle.query.proofs.MarkedSums.{level-next, level-fits}
 
 -- ---- One climb
 
@@ -92,12 +91,6 @@ module _ {s : List ℕ} (formed : Formed s) where
     pub step-above : Above (parentsOf s) (above .up) v
     step-above =
         rw (climb-more .up .is) (above-is-up (formed .parents) (depthOf s v - level′) v (now .on-map) (omega (arith, now .no-deeper)) (omega arith))
-
-    -- and the list that is left behind is for it
-    pub step-list : {u : ℕ} → above .up ≡ u → Above (parentsOf s) u v × (below .at ≡ listPlace s v u)
-    step-list {u} is =
-        let deep : depthOf s u ≡ level′ = rw is at (climb-depth climb-more) in
-        (rw is at step-above, now .place ∙ ap (behind s v) e ∙ sym (level-place s v u deep))
 
   -- ---- Two climbs
 
@@ -182,37 +175,21 @@ module _ {s depths : List ℕ} (formed : Formed s) (filled : DepthsFilled s dept
   own-level : {v : ℕ} {climb : Climb} → Climbs s v (depthOf s v - 0) climb → Climbs s v (getD depths v 0) climb
   own-level {v} now = let e : getD depths v 0 ≡ depthOf s v - 0 = omega (arith, filled .depth v (now .on-map)) in rw e now
 
-  -- v is deeper than u, and its climb goes to just below the depth of u
-  module _ {u v : ℕ} {below : Climb} (u-on-map : u < junctionsOf s) (deeper : getD depths u 0 < getD depths v 0)
-      (climb : Climbs s v (depthOf s v - (getD depths v 0 - getD depths u 0 - 1)) below) where
-    just-below : Climbs s v (suc (getD depths u 0)) below
-    just-below =
-        let e : suc (getD depths u 0) ≡ depthOf s v - (getD depths v 0 - getD depths u 0 - 1) = omega (arith, filled .depth v (climb .on-map)) in
+  -- v is no higher than u, which does not stand above it, and its climb goes to the depth of u
+  module _ {u v : ℕ} {raised own : Climb} (no-higher : getD depths u 0 ≤ getD depths v 0)
+      (climb : Climbs s v (depthOf s v - (getD depths v 0 - getD depths u 0)) raised) (own-climb : Climbs s u (depthOf s u - 0) own)
+      (beside : Ancestor (parentsOf s) u v → ⊥) where
+    raised-level : Climbs s v (getD depths u 0) raised
+    raised-level =
+        let e : getD depths u 0 ≡ depthOf s v - (getD depths v 0 - getD depths u 0) = omega (arith, filled .depth v (climb .on-map)) in
         rw e climb
 
-    pub raised-inside : (18 + 2 * below .up ≤ length s) × (below .at + 2 ≤ length s)
-    raised-inside = climb-inside formed just-below (omega arith)
+    raised-apart : raised .up ≡ own .up → ⊥
+    raised-apart e = beside (rw (e ∙ climb-own own-climb) at (climb-ancestor formed raised-level))
 
-    module _ {above : Climb} (step : Steps s below above) where
-      -- u is what stands there
-      pub raised-list : above .up ≡ u → Above (parentsOf s) u v × (below .at ≡ listPlace s v u)
-      raised-list = step-list formed just-below refl step
+    -- both climb on, whichever of the two comes first
+    pub raised-near : Abreast s (raised .from) (own .from) (getD depths u 0) raised own
+    raised-near = abreast-starts formed raised-level (own-level own-climb) (inr (filled .depth u (own-climb .on-map))) raised-apart
 
-      -- it is not: both climb on, whichever of the two comes first
-      module _ {own : Climb} (own-climb : Climbs s u (depthOf s u - 0) own) (apart : above .up ≡ u → ⊥) where
-        pub raised-near : Abreast s (above .from) (own .from) (getD depths u 0) above own
-        raised-near =
-            abreast-starts formed (climb-more formed just-below refl step) (own-level own-climb) (inr (filled .depth u u-on-map)) (λ e. apart (e ∙ climb-own own-climb))
-
-        pub raised-far : Abreast s (own .from) (above .from) (getD depths u 0) own above
-        raised-far =
-            abreast-starts formed (own-level own-climb) (climb-more formed just-below refl step) (inl (filled .depth u u-on-map)) (λ e. apart (sym e ∙ climb-own own-climb))
-
-  -- both are of one depth
-  pub level-abreast :
-      {x y : ℕ} {near far : Climb} → getD depths x 0 ≤ getD depths y 0 → getD depths y 0 ≤ getD depths x 0 → Climbs s x (depthOf s x - 0) near →
-      Climbs s y (depthOf s y - 0) far → (x ≡ y → ⊥) → Abreast s (near .from) (far .from) (getD depths x 0) near far
-  level-abreast {x} {y} {far = far} h g one two apart =
-      let e : getD depths x 0 ≡ getD depths y 0 = omega arith in
-      let beside : Climbs s y (getD depths x 0) far = rw e (own-level two) in
-      abreast-starts formed (own-level one) beside (inl (filled .depth x (one .on-map))) (λ f. apart (sym (climb-own one) ∙ f ∙ climb-own two))
+    pub raised-far : Abreast s (own .from) (raised .from) (getD depths u 0) own raised
+    raised-far = abreast-starts formed (own-level own-climb) raised-level (inl (filled .depth u (own-climb .on-map))) (λ e. raised-apart (sym e))

@@ -19,8 +19,10 @@ pub enum Between {
     Lists(usize, usize, u32),
 }
 
+pub mod above;
 pub mod across;
 pub mod climbing;
 pub mod direct;
 pub mod limited;
+pub mod passing;
 pub mod places;
