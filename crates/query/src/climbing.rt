@@ -72,7 +72,7 @@ fn meet(labels: &[u8], depth: u32, near: Climb, far: Climb) -> Between
         let above_left = step(labels, left);
         let above_right = step(labels, right);
         if above_left.up == above_right.up {
-            return Between::Lists(left.at, right.at, levels);
+            return Between::Lists(left.at, right.at, levels, above_left.up);
         }
         left = above_left;
         right = above_right;
