@@ -40,9 +40,9 @@ module _ (𝓛 : Figures) where
     pub no-larger : p ⊑ q
     pub smaller : p ≡ q → ⊥
 
-  -- Within C: not above it
+  -- Within the limit: not above it
   abbrev pub Within : 𝓛 .Figure → Weight → Type 0
-  Within C p = 𝓛 ._⊑_ (spent p) C
+  Within limit p = 𝓛 ._⊑_ (spent p) limit
 
   -- p comes before q as an answer: by time, then by the limited figures
   pub data Sooner (p q : Weight) : Type 0 where
