@@ -1,30 +1,22 @@
--- Laws of lists in two slices: a member of the list of entries is an entry at a place, a list of slices is an ordered list, and
--- best places are a best sum.
--- In this order: places; order; the two slices of the entries; places of sums.
-use mathlib.Core.Path.{_≡_, refl, sym, ap, ap₂, subst, _∙_}
+-- Laws of lists in two slices: a member of the list of entries is an entry at a place, a later entry has more energy and less time, and
+-- best places are a best sum. In this order: places; order; places of sums.
+use mathlib.Core.Path.{_≡_, refl, sym, ap₂, subst, _∙_}
 use mathlib.Core.Logic.{_⊎_, inl, inr}
 use mathlib.Core.List.{List, [], _∷_, List·Memᴰ, List·Memᴰ·head, List·Memᴰ·tail, List·Memᴰ·cases-cons, List·Memᴰ·not-nil}
-use Prim.Native.Nat.{ℕ, zero, suc, _+_, _≤_, _<_}
+use Prim.Native.Nat.{ℕ, zero, suc, _≤_, _<_}
 use native.Mathlib.Decide.{ℕ-discrete}
 use native.Mathlib.Omega.{arith}
 use lib.ListN.{length, getD}
 use Rattle.paths.specs.Weights.{weights, energy, pair, Within, NotLater}
-use Rattle.paths.specs.TradeOff.{Ordered, none, one, more, IsSum}
+use Rattle.paths.specs.TradeOff.{IsSum}
 use Rattle.paths.specs.Answer.{BestSum, NoSum}
-use Rattle.lists.specs.Entries.{Weight, entries, times as timesOf, energies as energiesOf}
+use Rattle.lists.specs.Entries.{Weight, entries}
 use Rattle.lists.specs.working.Lists.{entryAt, IsList}
 use Rattle.lists.specs.working.Sums.{sumAt, BestPlaces, BestFound}
 use Rattle.lists.specs.declared.Places.{Places}
 use Rattle.lists.specs.declared.Places.the-variants.{At}
 
 -- ---- Places
-
--- as many entries as each slice has
-pub entries-length : (times energies : List ℕ) → length times ≡ length energies → length (entries times energies) ≡ length times
-unfolding entries
-entries-length [] energies h = refl
-entries-length (t ∷ times) [] h = sym h
-entries-length (t ∷ times) (e ∷ energies) h = ap suc (entries-length times energies (omega arith))
 
 -- p stands at a place
 pub record AtIndex (times energies : List ℕ) (p : Weight) : Type 0 where
@@ -75,27 +67,6 @@ module _ {most : ℕ} {times energies : List ℕ} (right : IsList most times ene
   pub time-falls-far : (i j : ℕ) → i < j → j < length times → getD times j 0 < getD times i 0
   time-falls-far = far (λ i j. getD times j 0 < getD times i 0) (λ i j k a b. omega arith) (length times) (right .time-falls)
 
--- without its first entry it is still a list
-pub isList-tail : {most t e : ℕ} {times energies : List ℕ} → IsList most (t ∷ times) (e ∷ energies) → IsList most times energies
-isList-tail right =
-    record {
-      one-length = omega (arith, right .one-length);
-      small-time = λ i h. right .small-time (suc i) (omega arith);
-      small-energy = λ i h. right .small-energy (suc i) (omega arith);
-      energy-rises = λ i h. right .energy-rises (suc i) (omega arith);
-      time-falls = λ i h. right .time-falls (suc i) (omega arith);
-    }
-
--- the entries of a list are in the order of the paths' definitions
-pub isList-ordered : {most : ℕ} (times energies : List ℕ) → IsList most times energies → Ordered (entries times energies)
-unfolding entries
-isList-ordered [] energies right = none
-isList-ordered (t ∷ times) [] right = none
-isList-ordered (t ∷ []) (e ∷ energies) right = one
-isList-ordered (t ∷ u ∷ times) (e ∷ []) right = one
-isList-ordered (t ∷ u ∷ times) (e ∷ f ∷ energies) right =
-    more (right .energy-rises 0 (omega arith)) (right .time-falls 0 (omega arith)) (isList-ordered (u ∷ times) (f ∷ energies) (isList-tail right))
-
 -- numbers that are small enough are so for a larger bound
 pub isList-more : {m n : ℕ} {times energies : List ℕ} → IsList m times energies → m ≤ n → IsList n times energies
 isList-more right h =
@@ -106,28 +77,6 @@ isList-more right h =
       energy-rises = right .energy-rises;
       time-falls = right .time-falls;
     }
-
--- ---- The two slices of the entries
-
--- the times and the energies come back
-pub times-entries : (times energies : List ℕ) → length times ≡ length energies → timesOf (entries times energies) ≡ times
-unfolding entries
-times-entries [] energies h = refl
-times-entries (t ∷ times) [] h = absurd (omega arith)
-times-entries (t ∷ times) (e ∷ energies) h = ap (λ l. t ∷ l) (times-entries times energies (omega arith))
-
-pub energies-entries : (times energies : List ℕ) → length times ≡ length energies → energiesOf (entries times energies) ≡ energies
-unfolding entries
-energies-entries [] [] h = refl
-energies-entries [] (e ∷ energies) h = absurd (omega arith)
-energies-entries (t ∷ times) [] h = absurd (omega arith)
-energies-entries (t ∷ times) (e ∷ energies) h = ap (λ l. e ∷ l) (energies-entries times energies (omega arith))
-
--- the two slices of a list of weights have it as their entries
-pub entries-slices : (l : List Weight) → entries (timesOf l) (energiesOf l) ≡ l
-unfolding entries
-entries-slices [] = refl
-entries-slices (p ∷ l) = ap (λ k. p ∷ k) (entries-slices l)
 
 -- ---- Places of sums
 

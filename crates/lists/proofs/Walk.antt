@@ -11,11 +11,11 @@ use borrow.Author.Count.{below-more}
 use borrow.Author.Tests.{ltb-true, ltb-false}
 use lib.Dec.{ltb}
 use lib.ListN.{length, getD}
-use Rattle.paths.specs.Weights.{weights, energy, pair, Within, Sooner, by-time, by-figures, NotLater, sooner, same}
+use Rattle.paths.specs.Weights.{energy, pair, Within, Sooner, by-time, by-figures, NotLater, sooner, same}
 use Rattle.paths.proofs.Figures.{number-lawful}
 use Rattle.paths.proofs.Weights.{notLater-trans, sooner-trans, sooner-irrefl}
 use Rattle.lists.specs.Entries.{Weight}
-use Rattle.lists.specs.working.Lists.{aboveAll, entryAt, IsList}
+use Rattle.lists.specs.working.Lists.{aboveAll, IsList}
 use Rattle.lists.specs.working.Sums.{sumAt, BestPlaces}
 use Rattle.lists.specs.declared.sums.Sum.{Sum}
 use Rattle.lists.proofs.Tests.{test-fails, test-holds}

@@ -1,8 +1,6 @@
 -- A trade-off list as calls hold it: a slice of times and a slice of energies (SCOPE 5.4, 5.5).
-use mathlib.Core.Path.{_≡_}
 use mathlib.Core.List.{List, [], _∷_, map}
-use Prim.Native.Nat.{ℕ, suc, _≤_, _<_}
-use lib.ListN.{length, getD}
+use Prim.Native.Nat.{ℕ}
 use Rattle.paths.specs.Weights.{weights, energy, pair, time, spent}
 
 -- The pair of a path: time and energy (SCOPE 2.1)

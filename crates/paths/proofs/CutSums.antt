@@ -1,15 +1,15 @@
 -- Answers from two lists for each junction of a cut: what a query on labels works out.
-use mathlib.Core.Path.{_≡_, refl, sym, ap, ap₂, _∙_}
-use mathlib.Core.List.{List, [], _∷_, List·Memᴰ}
+use mathlib.Core.Path.{refl, ap₂, _∙_}
+use mathlib.Core.List.{List, []}
 use Prim.Native.Nat.{ℕ}
 use Rattle.paths.specs.Figures.{Figures, Lawful}
-use Rattle.paths.specs.Weights.{weights, spent, Within, NotLater}
+use Rattle.paths.specs.Weights.{weights, Within, NotLater}
 use Rattle.paths.specs.Network.{Network, Walk, weight}
 use Rattle.paths.specs.TradeOff.{IsTradeOff, IsSum}
 use Rattle.paths.specs.Answer.{Best, Over, Apart}
 use Rattle.paths.specs.Cut.{IsCut}
 use Rattle.paths.proofs.Weights.{weights-lawful, ⊑-of-eq, ⊕-mono-both, ⊑-notLater, notLater-trans}
-use Rattle.paths.proofs.Walks.{WalkOf, _then_, Split, split, weight-then, split-weighs}
+use Rattle.paths.proofs.Walks.{WalkOf, _then_, split, weight-then, split-weighs}
 use Rattle.paths.proofs.Covering.{walk-covered}
 
 -- The lists from s to each junction of H, and from there to t

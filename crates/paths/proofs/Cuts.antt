@@ -2,18 +2,17 @@
 -- In this order: skylines; legs and their sum; demand 3.
 use mathlib.Core.Path.{_≡_, refl, sym, ap, ap₂, _∙_, subst}
 use mathlib.Core.Logic.{_↔_}
-use mathlib.Core.List.{List·Memᴰ}
 use Prim.Native.Nat.{ℕ}
 use Rattle.paths.specs.Figures.{Figures, Lawful}
 use Rattle.paths.specs.Weights.{weights, spent, Beats, Within, NotLater}
 use Rattle.paths.specs.Network.{Network, Walk, weight}
 use Rattle.paths.specs.TradeOff.{Skyline}
 use Rattle.paths.specs.Answer.{Best}
-use Rattle.paths.specs.Cut.{Meets, IsCut, SkylineSum, Legs, BestLegs}
+use Rattle.paths.specs.Cut.{IsCut, SkylineSum, Legs, BestLegs}
 use Rattle.paths.proofs.Weights.{weights-lawful, ⊑-of-eq, ⊕-mono-both, ⊕-cancel-right, part-⊑-left, beats-cast, ⊑-then-beats, notLater-trans, notLater-antisym, notLater-sum, notLater-of-eq}
-use Rattle.paths.proofs.Walks.{_then_, Split, split, weight-then, split-weighs, before-unbeaten, after-unbeaten}
+use Rattle.paths.proofs.Walks.{_then_, split, weight-then, split-weighs, before-unbeaten, after-unbeaten}
 use Rattle.paths.proofs.Covering.{TradeOffs, walk-covered}
-use Rattle.paths.proofs.Answers.{Answered, best-exists}
+use Rattle.paths.proofs.Answers.{best-exists}
 
 -- beside every walk within the limit stand two answered legs that are not later
 record LegsBeside {𝓛 : Figures} {𝓝 : Network 𝓛} (H : ℕ → Type 0) (limit : 𝓛 .Figure) {s t : ℕ} (w : Walk 𝓝 s t) : Type 0 where

@@ -3,7 +3,7 @@ use mathlib.Core.Path.{_≡_}
 use mathlib.Core.List.{List·Memᴰ}
 use Prim.Native.Nat.{ℕ}
 use Rattle.paths.specs.Figures.{Figures}
-use Rattle.paths.specs.Weights.{weights, Beats, NotLater}
+use Rattle.paths.specs.Weights.{weights, NotLater}
 use Rattle.paths.specs.Network.{Network, Walk, junctions}
 use Rattle.paths.specs.TradeOff.{Skyline}
 use Rattle.paths.specs.Answer.{Best}

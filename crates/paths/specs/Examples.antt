@@ -1,6 +1,6 @@
 -- The worked examples of SCOPE 8.1 to 8.4, as statements about the definitions. `proofs/Examples.antt` proves them by one computed test.
 use mathlib.Core.Path.{_≡_}
-use mathlib.Core.List.{List, [], _∷_, _++_, List·Memᴰ}
+use mathlib.Core.List.{List, [], _∷_, List·Memᴰ}
 use Prim.Native.Nat.{ℕ, suc, _≤_}
 use Rattle.paths.specs.Weights.{weights, energy, pair, time}
 use Rattle.paths.specs.Network.{Network, Hop}

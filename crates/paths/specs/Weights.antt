@@ -2,7 +2,7 @@
 use mathlib.Core.Path.{_≡_}
 use mathlib.Core.List.{List, [], _∷_, List·Memᴰ}
 use Prim.Native.Nat.{ℕ, _<_}
-use Rattle.paths.specs.Figures.{Figures, number, Both, _and_}
+use Rattle.paths.specs.Figures.{Figures, number, _and_}
 
 -- The weights over limited figures 𝓛: listed by 𝓛's order and then by time, as pairs are listed by energy (SCOPE 2.3)
 abbrev pub weights : Figures → Figures

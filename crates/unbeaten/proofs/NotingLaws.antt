@@ -1,5 +1,5 @@
 -- Sums of two lists in slices noted by their times. In this order: one entry; all sums; the best sum below a bound.
-use mathlib.Core.Path.{_≡_, refl, sym, ap, _∙_, subst}
+use mathlib.Core.Path.{_≡_, sym, ap}
 use mathlib.Core.List.{List}
 use Prim.Native.Nat.{ℕ, _+_, _-_, _≤_, _<_, _^_}
 use native.Mathlib.Decide.{ℕ-discrete, decLe}
@@ -7,8 +7,6 @@ use native.Mathlib.Omega.{arith}
 use lib.Dec.{lit≤}
 use lib.ListN.{length, getD}
 use Rattle.paths.specs.Weights.{energy, pair, time, spent}
-use Rattle.paths.specs.declared.seconds.Seconds.{Seconds}
-use Rattle.paths.specs.declared.energy.Energy.{Energy}
 use Rattle.lists.specs.Entries.{Weight}
 use Rattle.lists.specs.working.Lists.{aboveAll, IsList}
 use Rattle.lists.specs.working.Sums.{sumAt, BestPlaces, BestFound}
@@ -18,7 +16,7 @@ use Rattle.lists.proofs.Entries.{isList-more, energy-rises-far, time-falls-far,
 use Rattle.spans.specs.declared.Span.{Span}
 use Rattle.spans.specs.working.Noting.{spanSeconds, noEnergy, PairWithin, NoneBefore, Sought}
 use Rattle.spans.specs.working.Waiting.{mostTime, Waiting, BestBelow}
-use Rattle.spans.proofs.TableLaws.{EnergiesRise, FittingSums}
+use Rattle.spans.proofs.TableLaws.{EnergiesRise}
 use Rattle.spans.proofs.WaitingLaws.{best-first, best-behind, best-waits, noted-best, noted-waits}
 use Rattle.joins.specs.Form.{mostNumber}
 use Rattle.unbeaten.specs.working.Noting.{sumsWith, ListsSum, FoundBelow}

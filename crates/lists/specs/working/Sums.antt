@@ -1,9 +1,8 @@
 -- The best sum of two lists under a limit, by places.
 use mathlib.Core.Path.{_≡_}
 use mathlib.Core.List.{List}
-use Prim.Native.Nat.{ℕ, _+_, _≤_, _<_}
+use Prim.Native.Nat.{ℕ, _≤_, _<_}
 use lib.ListN.{length, getD}
-use Rattle.paths.specs.Figures.{Figures}
 use Rattle.paths.specs.Weights.{weights, energy, Within, NotLater}
 use Rattle.lists.specs.Entries.{Weight}
 use Rattle.lists.specs.working.Lists.{entryAt}

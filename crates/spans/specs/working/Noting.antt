@@ -2,9 +2,9 @@
 use mathlib.Core.Path.{_≡_}
 use mathlib.Core.Logic.{_⊎_}
 use mathlib.Core.List.{List}
-use Prim.Native.Nat.{ℕ, _+_, _-_, _≤_, _<_}
+use Prim.Native.Nat.{ℕ, _+_, _≤_, _<_}
 use lib.ListN.{length, getD, set}
-use Rattle.paths.specs.Weights.{energy, pair, time, spent, Within}
+use Rattle.paths.specs.Weights.{energy, pair, time, Within}
 use Rattle.lists.specs.Entries.{Weight}
 
 -- How many seconds a span has

@@ -1,5 +1,4 @@
 -- Each turn notes the sum with one entry more of the second list, and what stands behind the span makes no difference to it.
-use Prim.Native.Nat.{_-_}
 use native.Mathlib.Omega.{arith}
 use Rattle.spans.proofs.TableLaws.{EntryNoted, entry-none, entry-all, entry-later, entry-more, entry-beyond}
 use Rattle.unbeaten.specs.working.Noting.{sumsWith}
