@@ -46,14 +46,14 @@ pub join-unchanged :
     {ts es us fs timesBefore energiesBefore timesAfter energiesAfter : List ℕ} {number count : ℕ} →
     Join ts es us fs timesBefore energiesBefore number count timesAfter energiesAfter → (number ≡ 0 → ⊥) →
     (count ≡ 0) × (timesAfter ≡ timesBefore) × (energiesAfter ≡ energiesBefore)
-join-unchanged (Join.refused n e f g l) refusal = (f, g, l)
-join-unchanged (Join.no-room z right short e f g l) refusal = (f, g, l)
+join-unchanged (Join.refused n r) refusal = (r .no-count, r .times-stay, r .energies-stay)
+join-unchanged (Join.no-room z right short r) refusal = (r .no-count, r .times-stay, r .energies-stay)
 join-unchanged (Join.joined z right fits e f g l) refusal = absurd (refusal e)
 
 pub limited-join-zeros :
     {ts es us fs : List ℕ} {limit number time energy : ℕ} → LimitedJoin ts es us fs limit number time energy → (number ≡ 0 → ⊥) → (time ≡ 0) × (energy ≡ 0)
-limited-join-zeros (LimitedJoin.refused n e f g) refusal = (f, g)
-limited-join-zeros (LimitedJoin.over-limit z none e f g) refusal = (f, g)
+limited-join-zeros (LimitedJoin.refused n r) refusal = (r .no-time, r .no-energy)
+limited-join-zeros (LimitedJoin.over-limit z none r) refusal = (r .no-time, r .no-energy)
 limited-join-zeros (LimitedJoin.found z best e) refusal = absurd (refusal e)
 
 pub show-empty : {labels part : List ℕ} {v u : ℕ} → Shown labels v u part → (Shows labels v u → ⊥) → part ≡ []

@@ -6,8 +6,8 @@ use lib.ListN.{length}
 use Rattle.paths.specs.Weights.{energy, pair}
 use Rattle.paths.specs.TradeOff.{IsJoin}
 use Rattle.paths.specs.Answer.{BestSum, NoSum}
-use Rattle.refusals.specs.Lent.{filled}
-use Rattle.lists.specs.Entries.{Weight, entries, times, energies}
+use Rattle.refusals.specs.Lent.{filled, ListRefused}
+use Rattle.lists.specs.Entries.{Weight, entries, times as timesOf, energies as energiesOf}
 use Rattle.joins.specs.Form.{joinNumber}
 use Rattle.joins.specs.declared.JoinAnswer.{JoinAnswer}
 use Rattle.joins.specs.declared.JoinAnswer.the-variants as joinCase
@@ -27,68 +27,71 @@ joinCountOf joinCase.LengthsDiffer = 0
 joinCountOf joinCase.IllFormed = 0
 joinCountOf joinCase.NoRoom = 0
 
--- The number, the time and the energy of a limited join's answer
+-- The number, the time and the energy of a limited join's answer, zeros beside a refusal (SCOPE 4.1)
 abbrev pub sumNumberOf : SumAnswer → ℕ
-sumNumberOf (sumCase.Found time units) = 0
+sumNumberOf (sumCase.Found time energy) = 0
 sumNumberOf sumCase.LengthsDiffer = 41
 sumNumberOf sumCase.IllFormed = 42
 sumNumberOf sumCase.OverLimit = 23
 
 abbrev pub sumTimeOf : SumAnswer → ℕ
-sumTimeOf (sumCase.Found time units) = time .0
+sumTimeOf (sumCase.Found time energy) = time .0
 sumTimeOf sumCase.LengthsDiffer = 0
 sumTimeOf sumCase.IllFormed = 0
 sumTimeOf sumCase.OverLimit = 0
 
 abbrev pub sumEnergyOf : SumAnswer → ℕ
-sumEnergyOf (sumCase.Found time units) = units .0
+sumEnergyOf (sumCase.Found time energy) = energy .0
 sumEnergyOf sumCase.LengthsDiffer = 0
 sumEnergyOf sumCase.IllFormed = 0
 sumEnergyOf sumCase.OverLimit = 0
 
--- Limited join (SCOPE 5.6)
-pub data LimitedJoin (ts es us fs : List ℕ) (C number time units : ℕ) : Type 0 where
-  refused :
-      (joinNumber ts es us fs ≡ 0 → ⊥) → number ≡ joinNumber ts es us fs → time ≡ 0 → units ≡ 0 → LimitedJoin ts es us fs C number time units
-  over-limit :
-      joinNumber ts es us fs ≡ 0 →
-      NoSum energy (entries ts es) (entries us fs) C →
-      number ≡ 23 →
-      time ≡ 0 →
-      units ≡ 0 →
-      LimitedJoin ts es us fs C number time units
-  found :
-      joinNumber ts es us fs ≡ 0 →
-      BestSum energy (entries ts es) (entries us fs) C (pair time units) →
-      number ≡ 0 →
-      LimitedJoin ts es us fs C number time units
+-- A call that gives a sum, refused by a number: zeros beside it (SCOPE 4.1)
+pub record SumRefused (number sumTime sumEnergy by : ℕ) : Type 0 where
+  pub number-is : number ≡ by
+  pub no-time : sumTime ≡ 0
+  pub no-energy : sumEnergy ≡ 0
 
--- Join (SCOPE 5.5): the shorter of the two slices is the room
-pub data Join (ts es us fs : List ℕ) (outTimes outEnergies : List ℕ) (number count : ℕ) (timesAfter energiesAfter : List ℕ) : Type 0 where
-  refused :
-      (joinNumber ts es us fs ≡ 0 → ⊥) →
-      number ≡ joinNumber ts es us fs →
-      count ≡ 0 →
-      timesAfter ≡ outTimes →
-      energiesAfter ≡ outEnergies →
-      Join ts es us fs outTimes outEnergies number count timesAfter energiesAfter
-  no-room :
-      {joined : List Weight} →
-      joinNumber ts es us fs ≡ 0 →
-      IsJoin energy (entries ts es) (entries us fs) joined →
-      min (length outTimes) (length outEnergies) < length joined →
-      number ≡ 24 →
-      count ≡ 0 →
-      timesAfter ≡ outTimes →
-      energiesAfter ≡ outEnergies →
-      Join ts es us fs outTimes outEnergies number count timesAfter energiesAfter
-  joined :
-      {joined : List Weight} →
-      joinNumber ts es us fs ≡ 0 →
-      IsJoin energy (entries ts es) (entries us fs) joined →
-      length joined ≤ min (length outTimes) (length outEnergies) →
-      number ≡ 0 →
-      count ≡ length joined →
-      timesAfter ≡ filled outTimes (times joined) →
-      energiesAfter ≡ filled outEnergies (energies joined) →
-      Join ts es us fs outTimes outEnergies number count timesAfter energiesAfter
+module _ (times energies moreTimes moreEnergies : List ℕ) (limit number sumTime sumEnergy : ℕ) where
+  -- Limited join (SCOPE 5.6)
+  pub data LimitedJoin : Type 0 where
+    refused :
+        (joinNumber times energies moreTimes moreEnergies ≡ 0 → ⊥) →
+        SumRefused number sumTime sumEnergy (joinNumber times energies moreTimes moreEnergies) →
+        LimitedJoin
+    over-limit :
+        joinNumber times energies moreTimes moreEnergies ≡ 0 →
+        NoSum energy (entries times energies) (entries moreTimes moreEnergies) limit →
+        SumRefused number sumTime sumEnergy 23 →
+        LimitedJoin
+    found :
+        joinNumber times energies moreTimes moreEnergies ≡ 0 →
+        BestSum energy (entries times energies) (entries moreTimes moreEnergies) limit (pair sumTime sumEnergy) →
+        number ≡ 0 →
+        LimitedJoin
+
+module _
+    (times energies moreTimes moreEnergies outTimes outEnergies : List ℕ) (number count : ℕ) (timesAfter energiesAfter : List ℕ) where
+  -- Join (SCOPE 5.5): the shorter of the two slices is the room
+  pub data Join : Type 0 where
+    refused :
+        (joinNumber times energies moreTimes moreEnergies ≡ 0 → ⊥) →
+        ListRefused outTimes outEnergies number count timesAfter energiesAfter (joinNumber times energies moreTimes moreEnergies) →
+        Join
+    no-room :
+        {joined : List Weight} →
+        joinNumber times energies moreTimes moreEnergies ≡ 0 →
+        IsJoin energy (entries times energies) (entries moreTimes moreEnergies) joined →
+        min (length outTimes) (length outEnergies) < length joined →
+        ListRefused outTimes outEnergies number count timesAfter energiesAfter 24 →
+        Join
+    joined :
+        {joined : List Weight} →
+        joinNumber times energies moreTimes moreEnergies ≡ 0 →
+        IsJoin energy (entries times energies) (entries moreTimes moreEnergies) joined →
+        length joined ≤ min (length outTimes) (length outEnergies) →
+        number ≡ 0 →
+        count ≡ length joined →
+        timesAfter ≡ filled outTimes (timesOf joined) →
+        energiesAfter ≡ filled outEnergies (energiesOf joined) →
+        Join

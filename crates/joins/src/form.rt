@@ -21,11 +21,11 @@ fn follows(times: &[u32], energies: &[u32], i: usize) -> bool
         return true;
     }
     let before = i - 1;
-    let units_before = Energy(energies[before]);
-    let units = Energy(energies[i]);
+    let energy_before = Energy(energies[before]);
+    let energy = Energy(energies[i]);
     let time_before = Seconds(times[before]);
     let time = Seconds(times[i]);
-    units_before.below(units) && time.below(time_before)
+    energy_before.below(energy) && time.below(time_before)
 }
 
 // Entry i keeps the rules of 42.

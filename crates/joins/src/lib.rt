@@ -1,4 +1,5 @@
-// The two joins of trade-off lists as they are called: for all inputs, with their refusals.
+// The two joins of trade-off lists as they are called: what they ask of their lists, what they answer, and Limited join. Join's code, which
+// goes through the sums second by second, is the crate `unbeaten`.
 use paths::energy::Energy;
 use paths::seconds::Seconds;
 
@@ -19,6 +20,4 @@ pub enum SumAnswer {
 }
 
 pub mod form;
-pub mod join;
 pub mod limited;
-pub mod noting;

@@ -39,6 +39,6 @@ pub fn limited_join(
     };
     let sum = sum_at(times, energies, more_times, more_energies, i, j);
     let time = sum.time;
-    let units = sum.units;
-    SumAnswer::Found(time, units)
+    let energy = sum.energy;
+    SumAnswer::Found(time, energy)
 }

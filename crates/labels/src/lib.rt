@@ -128,7 +128,7 @@ pub fn join(
         (now («out_times» .entry)) (now («out_energies» .entry)) (joinNumberOf r) (joinCountOf r)
         (now («out_times» .exit)) (now («out_energies» .exit)) ⌝ }
 {
-    joins::join::join(
+    unbeaten::join::join(
         times,
         energies,
         more_times,

@@ -1,17 +1,16 @@
--- Laws of lists in two slices: a member of the list of entries is an entry at a place, a list of slices is an ordered list, and
--- best places are a best sum.
--- In this order: places; order; the two slices of the entries; places of sums.
-use mathlib.Core.Path.{_≡_, refl, sym, ap, ap₂, subst, _∙_}
+-- Laws of lists in two slices: a member of the list of entries is an entry at a place, a later entry has more energy and less time, and
+-- best places are a best sum. In this order: places; order; places of sums.
+use mathlib.Core.Path.{_≡_, refl, sym, ap₂, subst, _∙_}
 use mathlib.Core.Logic.{_⊎_, inl, inr}
 use mathlib.Core.List.{List, [], _∷_, List·Memᴰ, List·Memᴰ·head, List·Memᴰ·tail, List·Memᴰ·cases-cons, List·Memᴰ·not-nil}
-use Prim.Native.Nat.{ℕ, zero, suc, _+_, _≤_, _<_}
+use Prim.Native.Nat.{ℕ, zero, suc, _≤_, _<_}
 use native.Mathlib.Decide.{ℕ-discrete}
 use native.Mathlib.Omega.{arith}
 use lib.ListN.{length, getD}
 use Rattle.paths.specs.Weights.{weights, energy, pair, Within, NotLater}
-use Rattle.paths.specs.TradeOff.{Ordered, none, one, more, IsSum}
+use Rattle.paths.specs.TradeOff.{IsSum}
 use Rattle.paths.specs.Answer.{BestSum, NoSum}
-use Rattle.lists.specs.Entries.{Weight, entries, times, energies}
+use Rattle.lists.specs.Entries.{Weight, entries}
 use Rattle.lists.specs.working.Lists.{entryAt, IsList}
 use Rattle.lists.specs.working.Sums.{sumAt, BestPlaces, BestFound}
 use Rattle.lists.specs.declared.Places.{Places}
@@ -19,39 +18,32 @@ use Rattle.lists.specs.declared.Places.the-variants.{At}
 
 -- ---- Places
 
--- as many entries as each slice has
-pub entries-length : (ts es : List ℕ) → length ts ≡ length es → length (entries ts es) ≡ length ts
-unfolding entries
-entries-length [] es h = refl
-entries-length (t ∷ ts) [] h = sym h
-entries-length (t ∷ ts) (e ∷ es) h = ap suc (entries-length ts es (omega arith))
-
 -- p stands at a place
-pub record AtIndex (ts es : List ℕ) (p : Weight) : Type 0 where
+pub record AtIndex (times energies : List ℕ) (p : Weight) : Type 0 where
   pub place : ℕ
-  pub in-times : place < length ts
-  pub in-energies : place < length es
-  pub is : entryAt ts es place ≡ p
+  pub in-times : place < length times
+  pub in-energies : place < length energies
+  pub is : entryAt times energies place ≡ p
 
 -- a member of the entries stands at a place
-pub member-index : (ts es : List ℕ) {p : Weight} → List·Memᴰ p (entries ts es) → AtIndex ts es p
+pub member-index : (times energies : List ℕ) {p : Weight} → List·Memᴰ p (entries times energies) → AtIndex times energies p
 unfolding entries
-member-index [] es m = absurd (List·Memᴰ·not-nil m)
-member-index (t ∷ ts) [] m = absurd (List·Memᴰ·not-nil m)
-member-index (t ∷ ts) (e ∷ es) {p} m = pick (λ m′. member-index ts es m′) (List·Memᴰ·cases-cons m)
+member-index [] energies m = absurd (List·Memᴰ·not-nil m)
+member-index (t ∷ times) [] m = absurd (List·Memᴰ·not-nil m)
+member-index (t ∷ times) (e ∷ energies) {p} m = pick (λ m′. member-index times energies m′) (List·Memᴰ·cases-cons m)
   where
-    pick : (List·Memᴰ p (entries ts es) → AtIndex ts es p) → (p ≡ pair t e) ⊎ List·Memᴰ p (entries ts es) → AtIndex (t ∷ ts) (e ∷ es) p
+    pick : (List·Memᴰ p (entries times energies) → AtIndex times energies p) → (p ≡ pair t e) ⊎ List·Memᴰ p (entries times energies) → AtIndex (t ∷ times) (e ∷ energies) p
     pick f (inl first) = record { place = 0; in-times = omega arith; in-energies = omega arith; is = sym first }
     pick f (inr m′) =
         let z = f m′ in record { place = suc (z .place); in-times = omega arith; in-energies = omega arith; is = z .is }
 
 -- what stands at a place is a member of the entries
-pub index-member : (ts es : List ℕ) (i : ℕ) → i < length ts → i < length es → List·Memᴰ (entryAt ts es i) (entries ts es)
+pub index-member : (times energies : List ℕ) (i : ℕ) → i < length times → i < length energies → List·Memᴰ (entryAt times energies i) (entries times energies)
 unfolding entries
-index-member [] es i h k = absurd (omega arith)
-index-member (t ∷ ts) [] i h k = absurd (omega arith)
-index-member (t ∷ ts) (e ∷ es) zero h k = List·Memᴰ·head refl
-index-member (t ∷ ts) (e ∷ es) (suc i) h k = List·Memᴰ·tail (index-member ts es i (omega arith) (omega arith))
+index-member [] energies i h k = absurd (omega arith)
+index-member (t ∷ times) [] i h k = absurd (omega arith)
+index-member (t ∷ times) (e ∷ energies) zero h k = List·Memᴰ·head refl
+index-member (t ∷ times) (e ∷ energies) (suc i) h k = List·Memᴰ·tail (index-member times energies i (omega arith) (omega arith))
 
 -- ---- Order
 
@@ -66,38 +58,17 @@ far Before passes n step i (suc j) h k = pick (λ below. far Before passes n ste
     pick f (yes e) = rw e (step j k)
     pick f (no apart) = passes i j (suc j) (f (omega arith)) (step j k)
 
-module _ {most : ℕ} {ts es : List ℕ} (right : IsList most ts es) where
+module _ {most : ℕ} {times energies : List ℕ} (right : IsList most times energies) where
   -- a later entry has more energy
-  pub energy-rises-far : (i j : ℕ) → i < j → j < length es → getD es i 0 < getD es j 0
-  energy-rises-far = far (λ i j. getD es i 0 < getD es j 0) (λ i j k a b. omega arith) (length es) (right .energy-rises)
+  pub energy-rises-far : (i j : ℕ) → i < j → j < length energies → getD energies i 0 < getD energies j 0
+  energy-rises-far = far (λ i j. getD energies i 0 < getD energies j 0) (λ i j k a b. omega arith) (length energies) (right .energy-rises)
 
   -- and less time
-  pub time-falls-far : (i j : ℕ) → i < j → j < length ts → getD ts j 0 < getD ts i 0
-  time-falls-far = far (λ i j. getD ts j 0 < getD ts i 0) (λ i j k a b. omega arith) (length ts) (right .time-falls)
-
--- without its first entry it is still a list
-pub isList-tail : {most t e : ℕ} {ts es : List ℕ} → IsList most (t ∷ ts) (e ∷ es) → IsList most ts es
-isList-tail right =
-    record {
-      one-length = omega (arith, right .one-length);
-      small-time = λ i h. right .small-time (suc i) (omega arith);
-      small-energy = λ i h. right .small-energy (suc i) (omega arith);
-      energy-rises = λ i h. right .energy-rises (suc i) (omega arith);
-      time-falls = λ i h. right .time-falls (suc i) (omega arith);
-    }
-
--- the entries of a list are in the order of the paths' definitions
-pub isList-ordered : {most : ℕ} (ts es : List ℕ) → IsList most ts es → Ordered (entries ts es)
-unfolding entries
-isList-ordered [] es right = none
-isList-ordered (t ∷ ts) [] right = none
-isList-ordered (t ∷ []) (e ∷ es) right = one
-isList-ordered (t ∷ u ∷ ts) (e ∷ []) right = one
-isList-ordered (t ∷ u ∷ ts) (e ∷ f ∷ es) right =
-    more (right .energy-rises 0 (omega arith)) (right .time-falls 0 (omega arith)) (isList-ordered (u ∷ ts) (f ∷ es) (isList-tail right))
+  pub time-falls-far : (i j : ℕ) → i < j → j < length times → getD times j 0 < getD times i 0
+  time-falls-far = far (λ i j. getD times j 0 < getD times i 0) (λ i j k a b. omega arith) (length times) (right .time-falls)
 
 -- numbers that are small enough are so for a larger bound
-pub isList-more : {m n : ℕ} {ts es : List ℕ} → IsList m ts es → m ≤ n → IsList n ts es
+pub isList-more : {m n : ℕ} {times energies : List ℕ} → IsList m times energies → m ≤ n → IsList n times energies
 isList-more right h =
     record {
       one-length = right .one-length;
@@ -107,51 +78,29 @@ isList-more right h =
       time-falls = right .time-falls;
     }
 
--- ---- The two slices of the entries
-
--- the times and the energies come back
-pub times-entries : (ts es : List ℕ) → length ts ≡ length es → times (entries ts es) ≡ ts
-unfolding entries
-times-entries [] es h = refl
-times-entries (t ∷ ts) [] h = absurd (omega arith)
-times-entries (t ∷ ts) (e ∷ es) h = ap (λ l. t ∷ l) (times-entries ts es (omega arith))
-
-pub energies-entries : (ts es : List ℕ) → length ts ≡ length es → energies (entries ts es) ≡ es
-unfolding entries
-energies-entries [] [] h = refl
-energies-entries [] (e ∷ es) h = absurd (omega arith)
-energies-entries (t ∷ ts) [] h = absurd (omega arith)
-energies-entries (t ∷ ts) (e ∷ es) h = ap (λ l. e ∷ l) (energies-entries ts es (omega arith))
-
--- the two slices of a list of weights have it as their entries
-pub entries-slices : (l : List Weight) → entries (times l) (energies l) ≡ l
-unfolding entries
-entries-slices [] = refl
-entries-slices (p ∷ l) = ap (λ k. p ∷ k) (entries-slices l)
-
 -- ---- Places of sums
 
 -- equal weights are within one limit, and equally late
-pub within-eq : {C : ℕ} {p q : Weight} → p ≡ q → Within energy C q → Within energy C p
+pub within-eq : {limit : ℕ} {p q : Weight} → p ≡ q → Within energy limit q → Within energy limit p
 within-eq e w = rw e w
 
 pub notLater-eq : {p q r : Weight} → p ≡ q → NotLater energy r p → NotLater energy r q
 notLater-eq e h = rw e at h
 
-module _ (ts es us fs : List ℕ) where
+module _ (times energies moreTimes moreEnergies : List ℕ) where
   -- The sum of two places
   pub record AtPlaces (p : Weight) : Type 0 where
     pub first-index : ℕ
     pub second-index : ℕ
-    pub in-first : first-index < length ts
-    pub in-second : second-index < length us
-    pub is : sumAt ts es us fs first-index second-index ≡ p
+    pub in-first : first-index < length times
+    pub in-second : second-index < length moreTimes
+    pub is : sumAt times energies moreTimes moreEnergies first-index second-index ≡ p
 
   -- a sum stands at two places
-  pub sum-places : {p : Weight} → IsSum energy (entries ts es) (entries us fs) p → AtPlaces p
+  pub sum-places : {p : Weight} → IsSum energy (entries times energies) (entries moreTimes moreEnergies) p → AtPlaces p
   sum-places s =
-      let a = member-index ts es (s .in-first) in
-      let b = member-index us fs (s .in-second) in
+      let a = member-index times energies (s .in-first) in
+      let b = member-index moreTimes moreEnergies (s .in-second) in
       record {
         first-index = a .place;
         second-index = b .place;
@@ -162,33 +111,33 @@ module _ (ts es us fs : List ℕ) where
 
   -- two places give a sum
   pub places-sum :
-      length ts ≡ length es →
-      length us ≡ length fs →
+      length times ≡ length energies →
+      length moreTimes ≡ length moreEnergies →
       (i j : ℕ) →
-      i < length ts →
-      j < length us →
-      IsSum energy (entries ts es) (entries us fs) (sumAt ts es us fs i j)
+      i < length times →
+      j < length moreTimes →
+      IsSum energy (entries times energies) (entries moreTimes moreEnergies) (sumAt times energies moreTimes moreEnergies i j)
   places-sum even even′ i j h k =
       record {
-        left = entryAt ts es i;
-        right = entryAt us fs j;
-        in-first = index-member ts es i h (omega arith);
-        in-second = index-member us fs j k (omega arith);
+        left = entryAt times energies i;
+        right = entryAt moreTimes moreEnergies j;
+        in-first = index-member times energies i h (omega arith);
+        in-second = index-member moreTimes moreEnergies j k (omega arith);
         adds = refl;
       }
 
   -- the search found places
-  pub places-at : {C i j : ℕ} {r : Places} → r ≡ At i j → BestFound ts es us fs C r → BestPlaces ts es us fs C i j
-  places-at {C} e h = subst (BestFound ts es us fs C) e h
+  pub places-at : {limit i j : ℕ} {r : Places} → r ≡ At i j → BestFound times energies moreTimes moreEnergies limit r → BestPlaces times energies moreTimes moreEnergies limit i j
+  places-at {limit} e h = subst (BestFound times energies moreTimes moreEnergies limit) e h
 
   -- the best places give the best sum
   pub bestPlaces-bestSum :
-      length ts ≡ length es →
-      length us ≡ length fs →
-      {C i j : ℕ} →
-      BestPlaces ts es us fs C i j →
-      BestSum energy (entries ts es) (entries us fs) C (sumAt ts es us fs i j)
-  bestPlaces-bestSum even even′ {C} {i} {j} best =
+      length times ≡ length energies →
+      length moreTimes ≡ length moreEnergies →
+      {limit i j : ℕ} →
+      BestPlaces times energies moreTimes moreEnergies limit i j →
+      BestSum energy (entries times energies) (entries moreTimes moreEnergies) limit (sumAt times energies moreTimes moreEnergies i j)
+  bestPlaces-bestSum even even′ {limit} {i} {j} best =
       record {
         sum = places-sum even even′ i j (best .first-place) (best .second-place);
         within = best .within;
@@ -200,9 +149,9 @@ module _ (ts es us fs : List ℕ) where
 
   -- no places within the limit, no sum within it
   pub nowhere-noSum :
-      {C : ℕ} →
-      ((a b : ℕ) → a < length ts → b < length us → Within energy C (sumAt ts es us fs a b) → ⊥) →
-      NoSum energy (entries ts es) (entries us fs) C
+      {limit : ℕ} →
+      ((a b : ℕ) → a < length times → b < length moreTimes → Within energy limit (sumAt times energies moreTimes moreEnergies a b) → ⊥) →
+      NoSum energy (entries times energies) (entries moreTimes moreEnergies) limit
   nowhere-noSum nowhere q s w =
       let z = sum-places s in
       nowhere (z .first-index) (z .second-index) (z .in-first) (z .in-second) (within-eq (z .is) w)

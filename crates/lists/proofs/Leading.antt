@@ -11,19 +11,19 @@ use lib.ListN.{length, getD}
 use Rattle.lists.specs.working.Sums.{Leading}
 
 -- Every entry before count is within the limit
-pub record Passed (es : List ℕ) (limit count : ℕ) : Type 0 where
-  pub in-list : count ≤ length es
-  pub within : (i : ℕ) → i < count → getD es i 0 ≤ limit
+pub record Passed (energies : List ℕ) (limit count : ℕ) : Type 0 where
+  pub in-list : count ≤ length energies
+  pub within : (i : ℕ) → i < count → getD energies i 0 ≤ limit
 
-module _ {es : List ℕ} {limit count : ℕ} {over : Bool} (passed : Passed es limit count) (test : over ≡ ltb limit (getD es count 0)) where
+module _ {energies : List ℕ} {limit count : ℕ} {over : Bool} (passed : Passed energies limit count) (test : over ≡ ltb limit (getD energies count 0)) where
   -- the entry is within the limit: one more
-  pub passed-more : over ≡ false → count < length es → Passed es limit (count + 1)
+  pub passed-more : over ≡ false → count < length energies → Passed energies limit (count + 1)
   passed-more f h =
       record {
         in-list = omega arith;
-        within = below-more (λ i. getD es i 0 ≤ limit) count (passed .within) (ltb-false _ _ (sym test ∙ f));
+        within = below-more (λ i. getD energies i 0 ≤ limit) count (passed .within) (ltb-false _ _ (sym test ∙ f));
       }
 
   -- the entry is over the limit
-  pub passed-stops : over ≡ true → Leading es limit count
+  pub passed-stops : over ≡ true → Leading energies limit count
   passed-stops t = record { in-list = passed .in-list; within = passed .within; stops = λ h. ltb-true _ _ (sym test ∙ t) }

@@ -11,11 +11,11 @@ use borrow.Author.Count.{below-more}
 use borrow.Author.Tests.{ltb-true, ltb-false}
 use lib.Dec.{ltb}
 use lib.ListN.{length, getD}
-use Rattle.paths.specs.Weights.{weights, energy, pair, Within, Sooner, by-time, by-figures, NotLater, sooner, same}
+use Rattle.paths.specs.Weights.{energy, pair, Within, Sooner, by-time, by-figures, NotLater, sooner, same}
 use Rattle.paths.proofs.Figures.{number-lawful}
 use Rattle.paths.proofs.Weights.{notLater-trans, sooner-trans, sooner-irrefl}
 use Rattle.lists.specs.Entries.{Weight}
-use Rattle.lists.specs.working.Lists.{entryAt, IsList}
+use Rattle.lists.specs.working.Lists.{aboveAll, IsList}
 use Rattle.lists.specs.working.Sums.{sumAt, BestPlaces}
 use Rattle.lists.specs.declared.sums.Sum.{Sum}
 use Rattle.lists.proofs.Tests.{test-fails, test-holds}
@@ -23,24 +23,24 @@ use Rattle.lists.proofs.Entries.{energy-rises-far, time-falls-far, with
 
 -- ---- A sum's numbers
 
-module _ {ts es us fs : List ℕ} (first : IsList 2147483647 ts es) (second : IsList 2147483647 us fs) {i j : ℕ} where
+module _ {times energies moreTimes moreEnergies : List ℕ} (first : IsList aboveAll times energies) (second : IsList aboveAll moreTimes moreEnergies) {i j : ℕ} where
   -- two numbers of 31 bits have a sum of 32
-  pub time-adds : i < length ts → j < length us → getD ts i 0 + getD us j 0 < 2 ^ 32
+  pub time-adds : i < length times → j < length moreTimes → getD times i 0 + getD moreTimes j 0 < 2 ^ 32
   time-adds h k = omega (arith, first .small-time i h, second .small-time j k)
 
-  pub energy-adds : i < length es → j < length fs → getD es i 0 + getD fs j 0 < 2 ^ 32
+  pub energy-adds : i < length energies → j < length moreEnergies → getD energies i 0 + getD moreEnergies j 0 < 2 ^ 32
   energy-adds h k = omega (arith, first .small-energy i h, second .small-energy j k)
 
 -- and so with each entry before `from`
 pub energies-add :
-    {ts es us fs : List ℕ} {i from : ℕ} →
-    IsList 2147483647 ts es →
-    IsList 2147483647 us fs →
-    i < length ts →
-    from ≤ length fs →
+    {times energies moreTimes moreEnergies : List ℕ} {i from : ℕ} →
+    IsList aboveAll times energies →
+    IsList aboveAll moreTimes moreEnergies →
+    i < length times →
+    from ≤ length moreEnergies →
     (k : ℕ) →
     k < from →
-    getD es i 0 + getD fs k 0 < 2 ^ 32
+    getD energies i 0 + getD moreEnergies k 0 < 2 ^ 32
 energies-add first second h l k m = energy-adds first second (omega (arith, first .one-length)) (omega arith)
 
 -- a pair of equal numbers
@@ -51,7 +51,7 @@ pair-is p q = λ i. record { first = q i; second = p i }
 
 -- The weight of a sum
 abbrev pub weightOf : Sum → Weight
-weightOf s = pair (s .time .0) (s .units .0)
+weightOf s = pair (s .time .0) (s .energy .0)
 
 -- Whether a weight comes before another as an answer
 abbrev pub Compared : Weight → Weight → Bool → Type 0
@@ -108,106 +108,106 @@ sooner-eq {q = q} {r = r} e f h = subst (λ z. Sooner energy r z) f (subst (λ z
 
 -- ---- The entries that fit beside an energy
 
--- No entry from j up to from fits beside units within C
-pub record NoneFrom (fs : List ℕ) (units C from j : ℕ) : Type 0 where
+-- No entry from j up to from fits beside an energy within the limit
+pub record NoneFrom (moreEnergies : List ℕ) (energy limit from j : ℕ) : Type 0 where
   pub in-list : j ≤ from
-  pub beyond : (k : ℕ) → j ≤ k → k < from → C < units + getD fs k 0
+  pub beyond : (k : ℕ) → j ≤ k → k < from → limit < energy + getD moreEnergies k 0
 
 -- the last entry is over the limit too
 pub noneFrom-more :
-    {fs : List ℕ} {units C from j sum : ℕ} {over : Bool} →
-    NoneFrom fs units C from j →
+    {moreEnergies : List ℕ} {energy limit from j sum : ℕ} {over : Bool} →
+    NoneFrom moreEnergies energy limit from j →
     0 < j →
-    sum ≡ units + getD fs (j - 1) 0 →
-    over ≡ ltb C sum →
+    sum ≡ energy + getD moreEnergies (j - 1) 0 →
+    over ≡ ltb limit sum →
     not over ≡ false →
-    NoneFrom fs units C from (j - 1)
-noneFrom-more {fs} {units} {C} {from} {j} {sum} none-fits h s e f = record { in-list = omega (arith, none-fits .in-list); beyond = beyond }
+    NoneFrom moreEnergies energy limit from (j - 1)
+noneFrom-more {moreEnergies} {energy} {limit} {from} {j} {sum} none-fits h s e f = record { in-list = omega (arith, none-fits .in-list); beyond = beyond }
   where
-    is-over : C < units + getD fs (j - 1) 0
-    is-over = let z : C < sum = ltb-true _ _ (test-holds e f) in omega arith
+    is-over : limit < energy + getD moreEnergies (j - 1) 0
+    is-over = let z : limit < sum = ltb-true _ _ (test-holds e f) in omega arith
 
-    beyond : (k : ℕ) → j - 1 ≤ k → k < from → C < units + getD fs k 0
+    beyond : (k : ℕ) → j - 1 ≤ k → k < from → limit < energy + getD moreEnergies k 0
     beyond k l m = pick (ℕ-discrete k (j - 1))
       where
-        pick : Dec (k ≡ j - 1) → C < units + getD fs k 0
+        pick : Dec (k ≡ j - 1) → limit < energy + getD moreEnergies k 0
         pick (yes d) = rw d is-over
         pick (no d) = none-fits .beyond k (omega arith) m
 
 -- it is not: it fits
-pub fits-here : (units x : ℕ) {C sum : ℕ} {over : Bool} → sum ≡ units + x → over ≡ ltb C sum → not over ≡ true → units + x ≤ C
-fits-here units x {C} {sum} s e t = let z : sum ≤ C = ltb-false _ _ (test-fails e t) in omega arith
+pub fits-here : (energy x : ℕ) {limit sum : ℕ} {over : Bool} → sum ≡ energy + x → over ≡ ltb limit sum → not over ≡ true → energy + x ≤ limit
+fits-here energy x {limit} {sum} s e t = let z : sum ≤ limit = ltb-false _ _ (test-fails e t) in omega arith
 
--- Entry j - 1 is the last that fits beside units within C; if j is 0, none does
-pub record Fit (fs : List ℕ) (units C j : ℕ) : Type 0 where
-  pub in-list : j ≤ length fs
-  pub last : 0 < j → units + getD fs (j - 1) 0 ≤ C
-  pub beyond : (k : ℕ) → j ≤ k → k < length fs → C < units + getD fs k 0
+-- Entry j - 1 is the last that fits beside an energy within the limit; if j is 0, none does
+pub record Fit (moreEnergies : List ℕ) (energy limit j : ℕ) : Type 0 where
+  pub in-list : j ≤ length moreEnergies
+  pub last : 0 < j → energy + getD moreEnergies (j - 1) 0 ≤ limit
+  pub beyond : (k : ℕ) → j ≤ k → k < length moreEnergies → limit < energy + getD moreEnergies k 0
 
 -- what the search down from `from` gives, where no entry from there on fits
 pub fit-from :
-    {fs : List ℕ} {units C from j : ℕ} →
-    from ≤ length fs →
-    ((k : ℕ) → from ≤ k → k < length fs → C < units + getD fs k 0) →
+    {moreEnergies : List ℕ} {energy limit from j : ℕ} →
+    from ≤ length moreEnergies →
+    ((k : ℕ) → from ≤ k → k < length moreEnergies → limit < energy + getD moreEnergies k 0) →
     j ≤ from →
-    ((k : ℕ) → j ≤ k → k < from → C < units + getD fs k 0) →
-    (0 < j → units + getD fs (j - 1) 0 ≤ C) →
-    Fit fs units C j
-fit-from {fs} {units} {C} {from} {j} h over l between fits = record { in-list = omega arith; last = fits; beyond = beyond }
+    ((k : ℕ) → j ≤ k → k < from → limit < energy + getD moreEnergies k 0) →
+    (0 < j → energy + getD moreEnergies (j - 1) 0 ≤ limit) →
+    Fit moreEnergies energy limit j
+fit-from {moreEnergies} {energy} {limit} {from} {j} h over l between fits = record { in-list = omega arith; last = fits; beyond = beyond }
   where
-    beyond : (k : ℕ) → j ≤ k → k < length fs → C < units + getD fs k 0
+    beyond : (k : ℕ) → j ≤ k → k < length moreEnergies → limit < energy + getD moreEnergies k 0
     beyond k a b = pick (decLe from k)
       where
-        pick : Dec (from ≤ k) → C < units + getD fs k 0
+        pick : Dec (from ≤ k) → limit < energy + getD moreEnergies k 0
         pick (yes d) = over k d b
         pick (no d) = between k a (omega arith)
 
 -- what the search down from the end gives
 pub fit-whole :
-    {fs : List ℕ} {units C j : ℕ} →
-    j ≤ length fs →
-    ((k : ℕ) → j ≤ k → k < length fs → C < units + getD fs k 0) →
-    (0 < j → units + getD fs (j - 1) 0 ≤ C) →
-    Fit fs units C j
+    {moreEnergies : List ℕ} {energy limit j : ℕ} →
+    j ≤ length moreEnergies →
+    ((k : ℕ) → j ≤ k → k < length moreEnergies → limit < energy + getD moreEnergies k 0) →
+    (0 < j → energy + getD moreEnergies (j - 1) 0 ≤ limit) →
+    Fit moreEnergies energy limit j
 fit-whole h between fits = record { in-list = h; last = fits; beyond = between }
 
 -- ---- What is known after n entries of the first list
 
-module _ (ts es us fs : List ℕ) where
-  -- The best sum within C of the first n entries, at the lowest place
-  pub record BestBefore (C n i j : ℕ) : Type 0 where
+module _ (times energies moreTimes moreEnergies : List ℕ) where
+  -- The best sum within the limit of the first n entries, at the lowest place
+  pub record BestBefore (limit n i j : ℕ) : Type 0 where
     pub first-place : i < n
-    pub second-place : j < length us
-    pub within : Within energy C (sumAt ts es us fs i j)
+    pub second-place : j < length moreTimes
+    pub within : Within energy limit (sumAt times energies moreTimes moreEnergies i j)
     pub least :
-        (a : ℕ) → a < n → (b : ℕ) → b < length us → Within energy C (sumAt ts es us fs a b) →
-        NotLater energy (sumAt ts es us fs i j) (sumAt ts es us fs a b)
-    pub lowest : (a : ℕ) → a < n → (b : ℕ) → b < length us → sumAt ts es us fs a b ≡ sumAt ts es us fs i j → i ≤ a
+        (a : ℕ) → a < n → (b : ℕ) → b < length moreTimes → Within energy limit (sumAt times energies moreTimes moreEnergies a b) →
+        NotLater energy (sumAt times energies moreTimes moreEnergies i j) (sumAt times energies moreTimes moreEnergies a b)
+    pub lowest : (a : ℕ) → a < n → (b : ℕ) → b < length moreTimes → sumAt times energies moreTimes moreEnergies a b ≡ sumAt times energies moreTimes moreEnergies i j → i ≤ a
 
   -- The sum s is that of entry i and entry j
   pub record Weighed (s : Sum) (i j : ℕ) : Type 0 where
     pub first-is : s .first ≡ i
     pub second-is : s .second ≡ j
-    pub weighs : weightOf s ≡ sumAt ts es us fs i j
+    pub weighs : weightOf s ≡ sumAt times energies moreTimes moreEnergies i j
 
   -- n entries are done: their best sum is known, and beside a later entry none from j on fits
-  pub record Walked (C n j : ℕ) (best : Sum) : Type 0 where
-    pub in-list : n ≤ length ts
-    pub fits-in-list : j ≤ length fs
-    pub beyond : (a k : ℕ) → n ≤ a → a < length es → j ≤ k → k < length fs → C < getD es a 0 + getD fs k 0
-    pub best-is : BestBefore C n (best .first) (best .second)
-    pub weighs : weightOf best ≡ sumAt ts es us fs (best .first) (best .second)
+  pub record Walked (limit n j : ℕ) (best : Sum) : Type 0 where
+    pub in-list : n ≤ length times
+    pub fits-in-list : j ≤ length moreEnergies
+    pub beyond : (a k : ℕ) → n ≤ a → a < length energies → j ≤ k → k < length moreEnergies → limit < getD energies a 0 + getD moreEnergies k 0
+    pub best-is : BestBefore limit n (best .first) (best .second)
+    pub weighs : weightOf best ≡ sumAt times energies moreTimes moreEnergies (best .first) (best .second)
 
 -- ---- The walk
 
-module _ {most : ℕ} {ts es us fs : List ℕ} (first : IsList most ts es) (second : IsList most us fs) where
+module _ {most : ℕ} {times energies moreTimes moreEnergies : List ℕ} (first : IsList most times energies) (second : IsList most moreTimes moreEnergies) where
   abbrev sum : ℕ → ℕ → Weight
-  sum = sumAt ts es us fs
+  sum = sumAt times energies moreTimes moreEnergies
 
   -- of the sums of entry n, that with the last entry that fits is the best
   last-least :
-      {C j : ℕ} (n : ℕ) → Fit fs (getD es n 0) C j → (b : ℕ) → b < length us → Within energy C (sum n b) → NotLater energy (sum n (j - 1)) (sum n b)
-  last-least {C} {j} n fit b h w = pick (decLe j b) (ℕ-discrete b (j - 1))
+      {limit j : ℕ} (n : ℕ) → Fit moreEnergies (getD energies n 0) limit j → (b : ℕ) → b < length moreTimes → Within energy limit (sum n b) → NotLater energy (sum n (j - 1)) (sum n b)
+  last-least {limit} {j} n fit b h w = pick (decLe j b) (ℕ-discrete b (j - 1))
     where
       pick : Dec (j ≤ b) → Dec (b ≡ j - 1) → NotLater energy (sum n (j - 1)) (sum n b)
       pick (yes d) e = absurd (omega (arith, fit .beyond b d (omega (arith, second .one-length))))
@@ -217,62 +217,62 @@ module _ {most : ℕ} {ts es us fs : List ℕ} (first : IsList most ts es) (seco
 
   -- what does not fit beside entry n does not fit beside a later one, whose energy is larger
   beyond-next :
-      {C j : ℕ} (n : ℕ) → Fit fs (getD es n 0) C j → (a k : ℕ) → n + 1 ≤ a → a < length es → j ≤ k → k < length fs → C < getD es a 0 + getD fs k 0
+      {limit j : ℕ} (n : ℕ) → Fit moreEnergies (getD energies n 0) limit j → (a k : ℕ) → n + 1 ≤ a → a < length energies → j ≤ k → k < length moreEnergies → limit < getD energies a 0 + getD moreEnergies k 0
   beyond-next n fit a k h l m o = omega (arith, fit .beyond k m o, energy-rises-far first n a (omega arith) l)
 
   -- ---- The best of the entries so far
 
   -- p is the best of the sums of entry a
   abbrev Least : ℕ → Weight → ℕ → Type 0
-  Least C p a = (b : ℕ) → b < length us → Within energy C (sum a b) → NotLater energy p (sum a b)
+  Least limit p a = (b : ℕ) → b < length moreTimes → Within energy limit (sum a b) → NotLater energy p (sum a b)
 
   -- the first entry alone
-  best-first : {C j : ℕ} → Fit fs (getD es 0 0) C j → 0 < j → BestBefore ts es us fs C 1 0 (j - 1)
-  best-first {C} {j} fit h =
+  best-first : {limit j : ℕ} → Fit moreEnergies (getD energies 0 0) limit j → 0 < j → BestBefore times energies moreTimes moreEnergies limit 1 0 (j - 1)
+  best-first {limit} {j} fit h =
       record {
         first-place = omega arith;
         second-place = omega (arith, fit .in-list, second .one-length);
         within = fit .last h;
-        least = below-more (Least C (sum 0 (j - 1))) 0 (λ a l. absurd (omega arith)) (last-least 0 fit);
+        least = below-more (Least limit (sum 0 (j - 1))) 0 (λ a l. absurd (omega arith)) (last-least 0 fit);
         lowest = λ a l b m e. omega arith;
       }
 
-  module _ {C n i m j : ℕ} (best : BestBefore ts es us fs C n i m) (fit : Fit fs (getD es n 0) C j) (some : 0 < j) where
+  module _ {limit n i m j : ℕ} (best : BestBefore times energies moreTimes moreEnergies limit n i m) (fit : Fit moreEnergies (getD energies n 0) limit j) (some : 0 < j) where
     -- entry n has a sooner sum
-    best-taken : Sooner energy (sum n (j - 1)) (sum i m) → BestBefore ts es us fs C (n + 1) n (j - 1)
+    best-taken : Sooner energy (sum n (j - 1)) (sum i m) → BestBefore times energies moreTimes moreEnergies limit (n + 1) n (j - 1)
     best-taken before =
         record {
           first-place = omega arith;
           second-place = omega (arith, fit .in-list, second .one-length);
           within = fit .last some;
           least =
-              below-more (Least C (sum n (j - 1))) n
+              below-more (Least limit (sum n (j - 1))) n
               (λ a l b k w. notLater-trans number-lawful (sooner before) (best .least a l b k w))
               (last-least n fit);
-          lowest = below-more (λ a. (b : ℕ) → b < length us → sum a b ≡ sum n (j - 1) → n ≤ a) n lower (λ b k e. omega arith);
+          lowest = below-more (λ a. (b : ℕ) → b < length moreTimes → sum a b ≡ sum n (j - 1) → n ≤ a) n lower (λ b k e. omega arith);
         }
       where
         -- an earlier entry with this sum would have been the best
-        lower : (a : ℕ) → a < n → (b : ℕ) → b < length us → sum a b ≡ sum n (j - 1) → n ≤ a
+        lower : (a : ℕ) → a < n → (b : ℕ) → b < length moreTimes → sum a b ≡ sum n (j - 1) → n ≤ a
         lower a l b k e =
             absurd (not-both before (notLater-eq e (best .least a l b k (within-eq e (fit .last some)))))
 
     -- entry n has none
-    best-kept : NotLater energy (sum i m) (sum n (j - 1)) → BestBefore ts es us fs C (n + 1) i m
+    best-kept : NotLater energy (sum i m) (sum n (j - 1)) → BestBefore times energies moreTimes moreEnergies limit (n + 1) i m
     best-kept later =
         record {
           first-place = omega (arith, best .first-place);
           second-place = best .second-place;
           within = best .within;
-          least = below-more (Least C (sum i m)) n (best .least) (λ b k w. notLater-trans number-lawful later (last-least n fit b k w));
-          lowest = below-more (λ a. (b : ℕ) → b < length us → sum a b ≡ sum i m → i ≤ a) n (best .lowest) (λ b k e. omega (arith, best .first-place));
+          least = below-more (Least limit (sum i m)) n (best .least) (λ b k w. notLater-trans number-lawful later (last-least n fit b k w));
+          lowest = below-more (λ a. (b : ℕ) → b < length moreTimes → sum a b ≡ sum i m → i ≤ a) n (best .lowest) (λ b k e. omega (arith, best .first-place));
         }
 
   -- no later entry has a sum within the limit
   best-all :
-      {C n i j : ℕ} → n ≤ length ts → BestBefore ts es us fs C n i j →
-      ((a b : ℕ) → n ≤ a → a < length ts → b < length us → Within energy C (sum a b) → ⊥) → BestPlaces ts es us fs C i j
-  best-all {C} {n} {i} {j} h best later =
+      {limit n i j : ℕ} → n ≤ length times → BestBefore times energies moreTimes moreEnergies limit n i j →
+      ((a b : ℕ) → n ≤ a → a < length times → b < length moreTimes → Within energy limit (sum a b) → ⊥) → BestPlaces times energies moreTimes moreEnergies limit i j
+  best-all {limit} {n} {i} {j} h best later =
       record {
         first-place = omega (arith, best .first-place);
         second-place = best .second-place;
@@ -281,14 +281,14 @@ module _ {most : ℕ} {ts es us fs : List ℕ} (first : IsList most ts es) (seco
         lowest = lowest;
       }
     where
-      least : (a b : ℕ) → a < length ts → b < length us → Within energy C (sum a b) → NotLater energy (sum i j) (sum a b)
+      least : (a b : ℕ) → a < length times → b < length moreTimes → Within energy limit (sum a b) → NotLater energy (sum i j) (sum a b)
       least a b l k w = pick (decLe n a)
         where
           pick : Dec (n ≤ a) → NotLater energy (sum i j) (sum a b)
           pick (yes d) = absurd (later a b d l k w)
           pick (no d) = best .least a (omega arith) b k w
 
-      lowest : (a b : ℕ) → a < length ts → b < length us → sum a b ≡ sum i j → i ≤ a
+      lowest : (a b : ℕ) → a < length times → b < length moreTimes → sum a b ≡ sum i j → i ≤ a
       lowest a b l k e = pick (decLe n a)
         where
           pick : Dec (n ≤ a) → i ≤ a
@@ -299,21 +299,21 @@ module _ {most : ℕ} {ts es us fs : List ℕ} (first : IsList most ts es) (seco
 
   -- no entry at all
   pub walk-empty :
-      {C : ℕ} → length ts ≡ 0 → (a b : ℕ) → a < length ts → b < length us → Within energy C (sum a b) → ⊥
+      {limit : ℕ} → length times ≡ 0 → (a b : ℕ) → a < length times → b < length moreTimes → Within energy limit (sum a b) → ⊥
   walk-empty h a b l k w = omega arith
 
   -- nothing fits beside the first entry, so nothing does beside a later one
   pub walk-nothing :
-      {C j : ℕ} → Fit fs (getD es 0 0) C j → j ≡ 0 → (a b : ℕ) → a < length ts → b < length us → Within energy C (sum a b) → ⊥
-  walk-nothing {C} fit h zero b l k w = omega (arith, fit .beyond b (omega arith) (omega (arith, second .one-length)))
-  walk-nothing {C} fit h (suc a) b l k w =
+      {limit j : ℕ} → Fit moreEnergies (getD energies 0 0) limit j → j ≡ 0 → (a b : ℕ) → a < length times → b < length moreTimes → Within energy limit (sum a b) → ⊥
+  walk-nothing {limit} fit h zero b l k w = omega (arith, fit .beyond b (omega arith) (omega (arith, second .one-length)))
+  walk-nothing {limit} fit h (suc a) b l k w =
       omega
       (arith, beyond-next 0 fit (suc a) b (omega arith) (omega (arith, first .one-length)) (omega arith) (omega (arith, second .one-length)))
 
   -- the first entry has a sum
   pub walk-starts :
-      {C j : ℕ} {s : Sum} → 0 < length ts → Fit fs (getD es 0 0) C j → 0 < j → Weighed ts es us fs s 0 (j - 1) → Walked ts es us fs C 1 j s
-  walk-starts {C} {j} {s} h fit some is =
+      {limit j : ℕ} {s : Sum} → 0 < length times → Fit moreEnergies (getD energies 0 0) limit j → 0 < j → Weighed times energies moreTimes moreEnergies s 0 (j - 1) → Walked times energies moreTimes moreEnergies limit 1 j s
+  walk-starts {limit} {j} {s} h fit some is =
       record {
         in-list = omega arith;
         fits-in-list = fit .in-list;
@@ -322,19 +322,19 @@ module _ {most : ℕ} {ts es us fs : List ℕ} (first : IsList most ts es) (seco
         weighs = rw (is .first-is, is .second-is) (is .weighs);
       }
 
-  module _ {C n j : ℕ} {best : Sum} (walked : Walked ts es us fs C n j best) where
+  module _ {limit n j : ℕ} {best : Sum} (walked : Walked times energies moreTimes moreEnergies limit n j best) where
     -- what the search down from j gives
     pub walk-fits :
-        {r : ℕ} → n < length ts → r ≤ j → ((k : ℕ) → r ≤ k → k < j → C < getD es n 0 + getD fs k 0) →
-        (0 < r → getD es n 0 + getD fs (r - 1) 0 ≤ C) → Fit fs (getD es n 0) C r
+        {r : ℕ} → n < length times → r ≤ j → ((k : ℕ) → r ≤ k → k < j → limit < getD energies n 0 + getD moreEnergies k 0) →
+        (0 < r → getD energies n 0 + getD moreEnergies (r - 1) 0 ≤ limit) → Fit moreEnergies (getD energies n 0) limit r
     walk-fits h l between fits =
         fit-from (walked .fits-in-list) (λ k a b. walked .beyond n k (omega arith) (omega (arith, first .one-length)) a b) l between fits
 
     -- entry n has a sum, which is taken if it comes before the best
     pub walk-more :
-        {r : ℕ} {candidate next : Sum} {before : Bool} → n < length ts → Fit fs (getD es n 0) C r → 0 < r → Weighed ts es us fs candidate n (r - 1) →
+        {r : ℕ} {candidate next : Sum} {before : Bool} → n < length times → Fit moreEnergies (getD energies n 0) limit r → 0 < r → Weighed times energies moreTimes moreEnergies candidate n (r - 1) →
         Compared (weightOf candidate) (weightOf best) before →
-        ((before ≡ true) × (next ≡ candidate)) ⊎ ((before ≡ false) × (next ≡ best)) → Walked ts es us fs C (n + 1) r next
+        ((before ≡ true) × (next ≡ candidate)) ⊎ ((before ≡ false) × (next ≡ best)) → Walked times energies moreTimes moreEnergies limit (n + 1) r next
     walk-more h fit some is compared (inl (t, e)) =
         record {
           in-list = omega arith;
@@ -356,18 +356,18 @@ module _ {most : ℕ} {ts es us fs : List ℕ} (first : IsList most ts es) (seco
         }
 
     -- nothing fits beside entry n, so nothing does beside a later one
-    pub walk-stops : {r : ℕ} → n < length ts → Fit fs (getD es n 0) C r → r ≡ 0 → BestPlaces ts es us fs C (best .first) (best .second)
+    pub walk-stops : {r : ℕ} → n < length times → Fit moreEnergies (getD energies n 0) limit r → r ≡ 0 → BestPlaces times energies moreTimes moreEnergies limit (best .first) (best .second)
     walk-stops h fit e = best-all (walked .in-list) (walked .best-is) later
       where
-        later : (a b : ℕ) → n ≤ a → a < length ts → b < length us → Within energy C (sum a b) → ⊥
+        later : (a b : ℕ) → n ≤ a → a < length times → b < length moreTimes → Within energy limit (sum a b) → ⊥
         later a b l k o w = pick (ℕ-discrete a n)
           where
             pick : Dec (a ≡ n) → ⊥
-            pick (yes d) = omega (arith, fit .beyond b (omega arith) (omega (arith, second .one-length)), ap (λ z. getD es z 0) d)
+            pick (yes d) = omega (arith, fit .beyond b (omega arith) (omega (arith, second .one-length)), ap (λ z. getD energies z 0) d)
             pick (no d) =
                 omega
                 (arith, beyond-next n fit a b (omega arith) (omega (arith, first .one-length)) (omega arith) (omega (arith, second .one-length)))
 
     -- there is no entry more
-    pub walk-ends : length ts ≤ n → BestPlaces ts es us fs C (best .first) (best .second)
+    pub walk-ends : length times ≤ n → BestPlaces times energies moreTimes moreEnergies limit (best .first) (best .second)
     walk-ends h = best-all (walked .in-list) (walked .best-is) (λ a b l k o w. omega arith)

@@ -7,5 +7,8 @@ pub enum Places {
     Nowhere,
 }
 
+// More than the energy of any sum that is asked for; a list with numbers up to it has sums of 32 bits.
+pub const ABOVE_ALL: u32 = 2147483647;
+
 pub mod sums;
 pub mod within;

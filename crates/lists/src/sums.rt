@@ -8,7 +8,7 @@ ghost use mathlib.Core.Bool.{true, false};
 ghost use Prim.Native.Nat.{ℕ, _+_, _-_, _≤_, _<_, _^_};
 ghost use lib.ListN.{length, getD};
 ghost use Rattle.paths.specs.Weights.{energy, pair, Sooner, NotLater};
-ghost use Rattle.lists.specs.working.Lists.{IsList};
+ghost use Rattle.lists.specs.working.Lists.{aboveAll, IsList};
 ghost use Rattle.lists.specs.working.Sums.{sumAt, BestFound};
 
 // A sum of an entry of the first list and one of the second: their places, and its time and energy.
@@ -16,7 +16,7 @@ pub struct Sum {
     pub first: usize,
     pub second: usize,
     pub time: Seconds,
-    pub units: Energy,
+    pub energy: Energy,
 }
 
 // The sum of entry i of the first list and entry j of the second.
@@ -28,21 +28,21 @@ pub fn sum_at(
     i: usize,
     j: usize,
 ) -> Sum
-    requires { ⌜ IsList 2147483647 (now times) (now energies) ⌝ }
-    requires { ⌜ IsList 2147483647 (now «more_times») (now «more_energies») ⌝ }
+    requires { ⌜ IsList aboveAll (now times) (now energies) ⌝ }
+    requires { ⌜ IsList aboveAll (now «more_times») (now «more_energies») ⌝ }
     requires { ⌜ i < length (now times) ⌝ }
     requires { ⌜ j < length (now «more_times») ⌝ }
     ensures { λ r. ⌜ r .first ≡ i ⌝ }
     ensures { λ r. ⌜ r .second ≡ j ⌝ }
     ensures { λ r.
-        ⌜ pair (r .time .0) (r .units .0) ≡
+        ⌜ pair (r .time .0) (r .energy .0) ≡
         sumAt (now (times .entry)) (now (energies .entry)) (now («more_times» .entry)) (now («more_energies» .entry)) i j ⌝ }
 {
     Sum {
         first: i,
         second: j,
         time: Seconds(times[i]).plus(Seconds(more_times[j])),
-        units: Energy(energies[i]).plus(Energy(more_energies[j])),
+        energy: Energy(energies[i]).plus(Energy(more_energies[j])),
     }
 }
 
@@ -50,8 +50,8 @@ pub fn sum_at(
 // of the two: to choose between whole sums sends their places through memory at each step of the walk.
 fn comes_before(candidate: Sum, best: Sum) -> bool
     ensures { λ r.
-        ⌜ (Sooner energy (pair (candidate .time .0) (candidate .units .0)) (pair (best .time .0) (best .units .0)) × (r ≡ true)) ⊎
-        (NotLater energy (pair (best .time .0) (best .units .0)) (pair (candidate .time .0) (candidate .units .0)) × (r ≡ false)) ⌝ }
+        ⌜ (Sooner energy (pair (candidate .time .0) (candidate .energy .0)) (pair (best .time .0) (best .energy .0)) × (r ≡ true)) ⊎
+        (NotLater energy (pair (best .time .0) (best .energy .0)) (pair (candidate .time .0) (candidate .energy .0)) × (r ≡ false)) ⌝ }
 {
     if candidate.time.below(best.time) {
         return true;
@@ -59,21 +59,21 @@ fn comes_before(candidate: Sum, best: Sum) -> bool
     if best.time.below(candidate.time) {
         return false;
     }
-    candidate.units.below(best.units)
+    candidate.energy.below(best.energy)
 }
 
-// Down from `from`, past the entries of the second list that do not fit beside `units` within the limit.
-pub fn fitting(more_energies: &[u32], units: Energy, limit: Energy, from: usize) -> usize
+// Down from `from`, past the entries of the second list that do not fit beside an energy within the limit.
+pub fn fitting(more_energies: &[u32], energy: Energy, limit: Energy, from: usize) -> usize
     requires { ⌜ from ≤ length (now «more_energies») ⌝ }
-    requires { ⌜ ((k : ℕ) → k < from → units .0 + getD (now «more_energies») k 0 < 2 ^ 32) ⌝ }
+    requires { ⌜ ((k : ℕ) → k < from → energy .0 + getD (now «more_energies») k 0 < 2 ^ 32) ⌝ }
     ensures { λ r. ⌜ r ≤ from ⌝ }
-    ensures { λ r. ⌜ ((k : ℕ) → r ≤ k → k < from → limit .0 < units .0 + getD (now («more_energies» .entry)) k 0) ⌝ }
-    ensures { λ r. ⌜ (0 < r → units .0 + getD (now («more_energies» .entry)) (r - 1) 0 ≤ limit .0) ⌝ }
+    ensures { λ r. ⌜ ((k : ℕ) → r ≤ k → k < from → limit .0 < energy .0 + getD (now («more_energies» .entry)) k 0) ⌝ }
+    ensures { λ r. ⌜ (0 < r → energy .0 + getD (now («more_energies» .entry)) (r - 1) 0 ≤ limit .0) ⌝ }
 {
     let mut j = from;
     while j > 0 {
         let last = j - 1;
-        let sum = units.plus(Energy(more_energies[last]));
+        let sum = energy.plus(Energy(more_energies[last]));
         if !limit.below(sum) {
             return j;
         }
@@ -91,8 +91,8 @@ pub fn best_sum(
     more_energies: &[u32],
     limit: Energy,
 ) -> Places
-    requires { ⌜ IsList 2147483647 (now times) (now energies) ⌝ }
-    requires { ⌜ IsList 2147483647 (now «more_times») (now «more_energies») ⌝ }
+    requires { ⌜ IsList aboveAll (now times) (now energies) ⌝ }
+    requires { ⌜ IsList aboveAll (now «more_times») (now «more_energies») ⌝ }
     ensures { λ r.
         ⌜ BestFound (now (times .entry)) (now (energies .entry)) (now («more_times» .entry)) (now («more_energies» .entry)) (limit .0) r ⌝ }
 {

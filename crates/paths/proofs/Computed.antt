@@ -1,20 +1,21 @@
 -- Tests of a closed network of finitely many arcs that compute, and what follows where they pass.
--- In this order: ordered lists; the local test; the test of a first route; what follows.
-use mathlib.Core.Path.{_≡_, refl}
-use mathlib.Core.Logic.{Dec·and, Dec·not}
-use mathlib.Core.List.{List, [], _∷_, List·Memᴰ}
+-- In this order: ordered lists; a best entry; a join; the local test; the test of a first route; what follows.
+use mathlib.Core.Path.{_≡_, refl, sym, subst}
+use mathlib.Core.Logic.{_⊎_, inl, inr, Dec·and, Dec·not}
+use mathlib.Core.List.{List, [], _∷_, List·Memᴰ, Memᴰ·cast}
 use Prim.Native.Nat.{ℕ, _≤_, _<_}
 use native.Mathlib.Decide.{ℕ-discrete, decLe, decLt}
 use native.Mathlib.Omega.{arith}
 use Rattle.paths.specs.Figures.{Figures, Lawful}
-use Rattle.paths.specs.Weights.{Found, Covered, weights, energy, spent, time}
+use Rattle.paths.specs.Weights.{Found, Covered, weights, energy, spent, time, Within, Sooner, NotLater, sooner}
 use Rattle.paths.specs.Network.{Network, Hop, Finite, weight}
-use Rattle.paths.specs.TradeOff.{IsTradeOff, Ordered, none, one, more}
+use Rattle.paths.specs.TradeOff.{IsTradeOff, UnbeatenSum, IsSum, IsJoin, Ordered, none, one, more}
 use Rattle.paths.specs.Route.{FirstRoute}
 use Rattle.paths.proofs.Decisions.{map?, if?, all?, below?}
 use Rattle.paths.proofs.Figures.{number-lawful}
-use Rattle.paths.proofs.Weights.{weights-lawful, same?, ⊑-of-eq, ⊕-mono-right}
-use Rattle.paths.proofs.Covering.{found?, covered?, walk-covered}
+use Rattle.paths.proofs.Weights.{weights-lawful, same?, ⊑-of-eq, ⊕-mono-right, ⊑-then-beats, sooner-irrefl, notLater-antisym, compare-answers}
+use Rattle.paths.proofs.Covering.{found?, covered?, covered-stands, walk-covered}
+use Rattle.paths.proofs.Answers.{BestEntry}
 use Rattle.paths.proofs.Local.{start, Peel, first, last-one, Met, LocallyRight, local-test-shows}
 use Rattle.paths.proofs.OneLimit.{ordered-rises, ordered-none-beaten}
 use Rattle.paths.proofs.RouteStep.{stay-route, firstAmong-same, first-step, rest-of-only-arc}
@@ -36,6 +37,75 @@ ordered? (p ∷ q ∷ l) =
   where
     back : Ordered (p ∷ q ∷ l) → (spent energy p < spent energy q) × ((time energy q < time energy p) × Ordered (q ∷ l))
     back (more h k o) = (h, (k, o))
+
+-- ---- The test of a best entry
+
+-- p comes no later than q as an answer
+unfoldable pub not-later? : (p q : Weight) → Dec (NotLater energy p q)
+unfolding compare-answers number-lawful
+not-later? p q = pick (compare-answers number-lawful p q)
+  where
+    pick : NotLater energy p q ⊎ Sooner energy q p → Dec (NotLater energy p q)
+    pick (inl h) = yes h
+    pick (inr k) = no (λ h. sooner-irrefl number-lawful k (sym (notLater-antisym number-lawful h (sooner k))))
+
+-- p stands in l, within the limit, and no entry within it comes sooner
+unfoldable pub best-entry? : (l : List Weight) (limit : ℕ) (p : Weight) → Dec (BestEntry energy l limit p)
+unfolding map? Dec·and if? all? found? not-later? same? weights-lawful number-lawful decLe
+best-entry? l limit p =
+    map?
+    (λ z. record { member = Memᴰ·cast (sym (z .0 .has)) (z .0 .member); within = z .1 .0; least = λ {q} m h. z .1 .1 q m h })
+    (λ b. (record { entry = p; member = b .member; has = refl }, (b .within, λ q m h. b .least m h)))
+    (Dec·and (found? _ (λ q. same? W q p) l)
+    (Dec·and (decLe (spent energy p) limit)
+    (all? (λ q. if? (decLe (spent energy q) limit) (not-later? p q)) l)))
+
+-- no entry of l is within the limit
+abbrev pub NoneWithin : List Weight → ℕ → Type 0
+NoneWithin l limit = (q : Weight) → List·Memᴰ q l → Within energy limit q → ⊥
+
+unfoldable pub none-within? : (l : List Weight) (limit : ℕ) → Dec (NoneWithin l limit)
+unfolding all? Dec·not decLe
+none-within? l limit = all? (λ q. Dec·not (decLe (spent energy q) limit)) l
+
+-- ---- The test of a join
+
+-- r is ordered, each of its entries is a sum of an entry of k and one of l, and each such sum is covered
+pub record JoinAgrees (k l r : List Weight) : Type 0 where
+  pub ordered : Ordered r
+  pub met : (p : Weight) → List·Memᴰ p r → Found (λ a. Found (λ b. a ⊕ b ≡ p) l) k
+  pub covers : (a : Weight) → List·Memᴰ a k → (b : Weight) → List·Memᴰ b l → Covered energy r (a ⊕ b)
+
+unfoldable pub join-agrees? : (k l r : List Weight) → Dec (JoinAgrees k l r)
+unfolding map? Dec·and all? found? ordered? covered? same? weights-lawful number-lawful
+join-agrees? k l r =
+    map? (λ z. record { ordered = z .0; met = z .1 .0; covers = z .1 .1 }) (λ j. (j .ordered, (j .met, j .covers)))
+    (Dec·and (ordered? r)
+    (Dec·and
+    (all? (λ p. found? _ (λ a. found? _ (λ b. same? W (a ⊕ b) p) l) k) r)
+    (all? (λ a. all? (λ b. covered? number-lawful r (a ⊕ b)) l) k)))
+
+-- then it is their join: what beats an entry lies above another, and an ordered list has no two such
+pub agrees-join : {k l r : List Weight} → JoinAgrees k l r → IsJoin energy k l r
+agrees-join {k} {l} {r} agrees = record { rising = ordered-rises (agrees .ordered); real = real; complete = complete }
+  where
+    is-sum : {p : Weight} → List·Memᴰ p r → IsSum energy k l p
+    is-sum {p} m =
+        let f = agrees .met p m in
+        record { left = f .entry; right = f .has .entry; in-first = f .member; in-second = f .has .member; adds = f .has .has }
+
+    covered : {p : Weight} → IsSum energy k l p → Covered energy r p
+    covered s = subst (Covered energy r) (s .adds) (agrees .covers (s .left) (s .in-first) (s .right) (s .in-second))
+
+    real : {p : Weight} → List·Memᴰ p r → UnbeatenSum energy k l p
+    real {p} m =
+        record {
+          sum = is-sum m;
+          unbeaten = λ q s b. let f = covered s in ordered-none-beaten (agrees .ordered) (f .entry) p (f .member) m (⊑-then-beats number-lawful (f .has) b);
+        }
+
+    complete : {p : Weight} → UnbeatenSum energy k l p → List·Memᴰ p r
+    complete u = covered-stands number-lawful (covered (u .sum)) (λ q m b. u .unbeaten q (is-sum m) b)
 
 module _ {𝓝 : Network energy} (finite : Finite 𝓝) (L : ℕ → ℕ → List Weight) where
   -- ---- The local test at the start of every two junctions, over the list of arcs

@@ -1,5 +1,5 @@
 -- Where each road joins an ancestor and a descendant, a walk leaves or enters a subtree only through the junctions above its top.
--- In this order: an arc that changes sides; leaving and entering a subtree; common ancestors; branches and hoplinks; the ends.
+-- In this order: an arc that changes sides; leaving and entering a subtree; common ancestors; branches and hoplinks.
 use mathlib.Core.Path.{_≡_, refl}
 use mathlib.Core.Logic.{_⊎_, inl, inr, ⊎-elim, by-cases}
 use mathlib.Core.Option.{some}
@@ -11,7 +11,7 @@ use Rattle.paths.specs.Network.{Network, Walk, stay, go, junctions}
 use Rattle.paths.specs.Answer.{Apart}
 use Rattle.paths.specs.Forest.{Parents, Above, Ancestor, IsForest, Related, Common, Deepest, RoadsJoinRelated, RoadInto, WorkingSet, itself, crossing, Hoplink}
 use Rattle.paths.specs.Cut.{Meets, IsCut}
-use Rattle.paths.proofs.Walks.{start-met, finish-met}
+use Rattle.paths.proofs.Walks.{start-met}
 use Rattle.paths.proofs.Forest.{ancestor-trans, above-then-ancestor, above-child, ancestor-of-parent, ancestors-related, outside-above, child-towards, ancestor?, child-not-common}
 
 -- ---- An arc that changes sides
@@ -176,16 +176,3 @@ module _ {𝓛 : Figures} {𝓝 : Network 𝓛} (parent : Parents) (joined : Roa
       hoplink : (h : ℕ) → WorkingSet 𝓝 parent l h → Hoplink 𝓝 parent s t h
       hoplink h m =
           record { deepest = l; is-deepest = d; start-no-ancestor = no-start; finish-no-ancestor = no-finish; meeting = m }
-
--- ---- The ends
-
--- Either end alone meets every walk, so related ends need no junction between them
-module _ {𝓛 : Figures} {𝓝 : Network 𝓛} (s t : ℕ) where
-  pub start-cut : IsCut 𝓝 (λ h. h ≡ s) s t
-  start-cut w = record { at = s; inside = refl; met = start-met w }
-
-  pub finish-cut : IsCut 𝓝 (λ h. h ≡ t) s t
-  finish-cut w = record { at = t; inside = refl; met = finish-met w }
-
-  pub related-cut : IsCut 𝓝 (λ h. h ≡ s) s t × IsCut 𝓝 (λ h. h ≡ t) s t
-  related-cut = (start-cut, finish-cut)

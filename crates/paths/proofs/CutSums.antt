@@ -1,15 +1,15 @@
 -- Answers from two lists for each junction of a cut: what a query on labels works out.
-use mathlib.Core.Path.{_≡_, refl, sym, ap, ap₂, _∙_}
-use mathlib.Core.List.{List, [], _∷_, List·Memᴰ}
+use mathlib.Core.Path.{refl, ap₂, _∙_}
+use mathlib.Core.List.{List, []}
 use Prim.Native.Nat.{ℕ}
 use Rattle.paths.specs.Figures.{Figures, Lawful}
-use Rattle.paths.specs.Weights.{weights, spent, Within, NotLater}
+use Rattle.paths.specs.Weights.{weights, Within, NotLater}
 use Rattle.paths.specs.Network.{Network, Walk, weight}
 use Rattle.paths.specs.TradeOff.{IsTradeOff, IsSum}
 use Rattle.paths.specs.Answer.{Best, Over, Apart}
 use Rattle.paths.specs.Cut.{IsCut}
 use Rattle.paths.proofs.Weights.{weights-lawful, ⊑-of-eq, ⊕-mono-both, ⊑-notLater, notLater-trans}
-use Rattle.paths.proofs.Walks.{WalkOf, _then_, Split, split, weight-then, split-weighs}
+use Rattle.paths.proofs.Walks.{WalkOf, _then_, split, weight-then, split-weighs}
 use Rattle.paths.proofs.Covering.{walk-covered}
 
 -- The lists from s to each junction of H, and from there to t
@@ -18,13 +18,13 @@ pub record ListsAcross {𝓛 : Figures} (𝓝 : Network 𝓛) (H : ℕ → Type 
   pub to-right : {h : ℕ} → H h → IsTradeOff 𝓝 s h (to h)
   pub from-right : {h : ℕ} → H h → IsTradeOff 𝓝 h t (from h)
 
--- A sum of entries at a junction of H that is not later than any other within C
-pub record BestAcross (𝓛 : Figures) (H : ℕ → Type 0) (to from : ℕ → List (weights 𝓛 .Figure)) (C : 𝓛 .Figure) (p : weights 𝓛 .Figure) : Type 0 where
+-- A sum of entries at a junction of H that is not later than any other within the limit
+pub record BestAcross (𝓛 : Figures) (H : ℕ → Type 0) (to from : ℕ → List (weights 𝓛 .Figure)) (limit : 𝓛 .Figure) (p : weights 𝓛 .Figure) : Type 0 where
   pub at : ℕ
   pub inside : H at
   pub sum : IsSum 𝓛 (to at) (from at) p
-  pub within : Within 𝓛 C p
-  pub least : {h : ℕ} → H h → (q : weights 𝓛 .Figure) → IsSum 𝓛 (to h) (from h) q → Within 𝓛 C q → NotLater 𝓛 p q
+  pub within : Within 𝓛 limit p
+  pub least : {h : ℕ} → H h → (q : weights 𝓛 .Figure) → IsSum 𝓛 (to h) (from h) q → Within 𝓛 limit q → NotLater 𝓛 p q
 
 -- beside every walk stands a sum at a junction of H that is no larger
 pub record SumBelow (𝓛 : Figures) (H : ℕ → Type 0) (to from : ℕ → List (weights 𝓛 .Figure)) (p : weights 𝓛 .Figure) : Type 0 where
@@ -66,7 +66,7 @@ module _ {𝓛 : Figures} (lawful : Lawful 𝓛) {𝓝 : Network 𝓛} {H : ℕ 
         weighs = weight-then lawful (one .walk) (two .walk) ∙ ap₂ _⊕_ (one .weighs) (two .weighs) ∙ sum .adds;
       }
 
-  pub best-across : {C : 𝓛 .Figure} {p : Weight} → BestAcross 𝓛 H to from C p → Best 𝓝 s t C p
+  pub best-across : {limit : 𝓛 .Figure} {p : Weight} → BestAcross 𝓛 H to from limit p → Best 𝓝 s t limit p
   best-across b =
       let z = sum-has-walk (b .inside) (b .sum) in
       record {
@@ -76,10 +76,10 @@ module _ {𝓛 : Figures} (lawful : Lawful 𝓛) {𝓝 : Network 𝓛} {H : ℕ 
         least = λ other k. let y = walk-has-sum other in notLater-trans lawful (b .least (y .inside) (y .total) (y .sum) (lawful .⊑-trans (y .no-larger .0) k)) (⊑-notLater lawful (y .no-larger));
       }
 
-  -- no sum within C, no walk within C; a sum, a walk
+  -- no sum within the limit, no walk within the limit; a sum, a walk
   pub over-across :
-      {C : 𝓛 .Figure} {h : ℕ} {p : Weight} → H h → IsSum 𝓛 (to h) (from h) p →
-      ((k : ℕ) → H k → (q : Weight) → IsSum 𝓛 (to k) (from k) q → Within 𝓛 C q → ⊥) → Over 𝓝 s t C
+      {limit : 𝓛 .Figure} {h : ℕ} {p : Weight} → H h → IsSum 𝓛 (to h) (from h) p →
+      ((k : ℕ) → H k → (q : Weight) → IsSum 𝓛 (to k) (from k) q → Within 𝓛 limit q → ⊥) → Over 𝓝 s t limit
   over-across inside sum none =
       record {
         walk = sum-has-walk inside sum .walk;

@@ -1,32 +1,34 @@
--- The worked examples of SCOPE 8 hold: one computed test shows that all lists agree with the roads and that the routes lead;
--- answers and the join are read off those lists. In this order: the lists of all pairs of junctions; the test; answers; the examples.
+-- The worked examples of SCOPE 8.1 to 8.4 hold: one computed test shows that all lists agree with the roads, that the routes lead, that the
+-- join agrees with its two lists, and what each limit leaves. In this order: the lists of all pairs of junctions; the test; the examples.
 use mathlib.Core.Path.{_≡_, refl}
 use mathlib.Core.Logic.{Dec·and}
-use mathlib.Core.List.{List, [], _∷_, List·Memᴰ, List·Memᴰ·head}
+use mathlib.Core.List.{List, [], _∷_, List·Memᴰ·head}
 use Prim.Native.Nat.{ℕ, _+_, _-_, _<_}
 use native.Mathlib.Omega.{arith}
 use lib.ListN.{getD}
-use Rattle.paths.specs.Weights.{weights, energy, pair, Within}
+use Rattle.paths.specs.Weights.{weights, energy, pair}
 use Rattle.paths.specs.TradeOff.{IsTradeOff, IsJoin}
-use Rattle.paths.specs.Examples.{roadsA, A, roadsSquare, listK, listL, Starred}
+use Rattle.paths.specs.Answer.{Over}
+use Rattle.paths.specs.Examples.{roadsA, A, roadsSquare, listK, listL, Starred, over-limit}
 use Rattle.paths.proofs.Figures.{number-lawful}
 use Rattle.paths.proofs.Decisions.{by-decision, map?}
-use Rattle.paths.proofs.Skyline.{join-exists}
 use Rattle.paths.proofs.Existence.{listed-finite}
-use Rattle.paths.proofs.Answers.{
-  BestEntry,
-  Searched,
-  found,
-  none-within,
-  search-list,
-  entry-is-best,
-  none-within-list,
-  alone-best,
-  entry-is-best-sum,
-  none-within-join,
-}
+use Rattle.paths.proofs.Answers.{BestEntry, entry-is-best, none-within-list, alone-best, entry-is-best-sum, none-within-join}
 use Rattle.paths.proofs.RouteStep.{stay-route}
-use Rattle.paths.proofs.Computed.{AllAgree, Leads, all-agree?, leads?, lists-right, leads-first}
+use Rattle.paths.proofs.Computed.{
+  best-entry?,
+  NoneWithin,
+  none-within?,
+  JoinAgrees,
+  join-agrees?,
+  agrees-join,
+  AllAgree,
+  all-agree?,
+  lists-right,
+  Leads,
+  leads?,
+  leads-first,
+}
 
 -- ---- The lists of all pairs of junctions
 
@@ -57,87 +59,125 @@ tableSquare =
 
 -- ---- The test
 
--- what is computed of the two networks: all lists agree, and the two routes lead
-record Computed : Type 0 where
-  agreeA : AllAgree (listed-finite roadsA) (lookup tableA) 5
-  agreeSquare : AllAgree (listed-finite roadsSquare) (lookup tableSquare) 4
-  routeA : Leads (listed-finite roadsA) (lookup tableA) 0 (2 ∷ 3 ∷ []) 3 (pair 9 3)
-  routeSquare : Leads (listed-finite roadsSquare) (lookup tableSquare) 0 (1 ∷ 3 ∷ []) 3 (pair 2 2)
+abbrev listA : ℕ → ℕ → List (weights energy .Figure)
+listA = lookup tableA
 
--- the one computed test
-computed : Computed
-unfolding all-agree? leads? listed-finite Dec·and map?
-computed =
-    by-decision
-    (map?
-    (λ z. record { agreeA = z .0 .0; agreeSquare = z .0 .1; routeA = z .1 .0; routeSquare = z .1 .1 })
-    (λ c. ((c .agreeA, c .agreeSquare), (c .routeA, c .routeSquare)))
-    (Dec·and
-    (Dec·and
-    (all-agree? (listed-finite roadsA) (lookup tableA) 5)
-    (all-agree? (listed-finite roadsSquare) (lookup tableSquare) 4))
-    (Dec·and
-    (leads? (listed-finite roadsA) (lookup tableA) 0 (2 ∷ 3 ∷ []) 3 (pair 9 3))
-    (leads? (listed-finite roadsSquare) (lookup tableSquare) 0 (1 ∷ 3 ∷ []) 3 (pair 2 2)))))
-    tt
-
-listA : (s t : ℕ) → s < 5 → t < 5 → IsTradeOff A s t (lookup tableA s t)
-listA s t = lists-right (alone tableA) (computed .agreeA)
-
-listA03 : IsTradeOff A 0 3 (lookup tableA 0 3)
-listA03 = listA 0 3 (omega arith) (omega arith)
-
--- ---- Answers
+abbrev listSquare : ℕ → ℕ → List (weights energy .Figure)
+listSquare = lookup tableSquare
 
 abbrev joinKL : List (weights energy .Figure)
 joinKL = pair 18 12 ∷ pair 17 13 ∷ pair 16 18 ∷ []
 
-joined : IsJoin energy listK listL joinKL
-unfolding join-exists number-lawful
-joined = join-exists number-lawful listK listL .is-join
+-- what is computed: all lists of the two networks agree and the two routes lead; the join agrees; what each limit leaves of a list
+record Computed : Type 0 where
+  agreeA : AllAgree (listed-finite roadsA) listA 5
+  agreeSquare : AllAgree (listed-finite roadsSquare) listSquare 4
+  routeA : Leads (listed-finite roadsA) listA 0 (2 ∷ 3 ∷ []) 3 (pair 9 3)
+  routeSquare : Leads (listed-finite roadsSquare) listSquare 0 (1 ∷ 3 ∷ []) 3 (pair 2 2)
+  joinAgrees : JoinAgrees listK listL joinKL
+  under2 : NoneWithin (listA 0 3) 2
+  under3 : BestEntry energy (listA 0 3) 3 (pair 9 3)
+  under6 : BestEntry energy (listA 0 3) 6 (pair 9 3)
+  under8 : BestEntry energy (listA 0 3) 8 (pair 7 7)
+  under9 : BestEntry energy (listA 0 3) 9 (pair 4 9)
+  under13 : BestEntry energy joinKL 13 (pair 17 13)
+  under11 : NoneWithin joinKL 11
+  under17 : BestEntry energy joinKL 17 (pair 17 13)
+  square : BestEntry energy (listSquare 0 3) 2 (pair 2 2)
 
--- what the search of a list under a limit finds
-abbrev Finds : {l : List (weights energy .Figure)} {C : ℕ} → Searched energy l C → Type 0
-Finds {l} {C} (found {p} b) = BestEntry energy l C p
-Finds {l} {C} (none-within none) = (q : weights energy .Figure) → List·Memᴰ q l → Within energy C q → ⊥
-
-finds : {l : List (weights energy .Figure)} {C : ℕ} (z : Searched energy l C) → Finds z
-finds (found b) = b
-finds (none-within none) = none
-
-under : (l : List (weights energy .Figure)) (C : ℕ) → Finds (search-list number-lawful l C)
-under l C = finds (search-list number-lawful l C)
+-- the one computed test
+computed : Computed
+unfolding all-agree? leads? join-agrees? best-entry? none-within? listed-finite Dec·and map?
+computed =
+    by-decision
+    (map?
+    (λ z.
+    record {
+      agreeA = z .0 .0;
+      agreeSquare = z .0 .1;
+      routeA = z .1 .0 .0;
+      routeSquare = z .1 .0 .1;
+      joinAgrees = z .1 .1 .0;
+      under2 = z .1 .1 .1 .0 .0;
+      under3 = z .1 .1 .1 .0 .1 .0;
+      under6 = z .1 .1 .1 .0 .1 .1 .0;
+      under8 = z .1 .1 .1 .0 .1 .1 .1 .0;
+      under9 = z .1 .1 .1 .0 .1 .1 .1 .1;
+      under13 = z .1 .1 .1 .1 .0;
+      under11 = z .1 .1 .1 .1 .1 .0;
+      under17 = z .1 .1 .1 .1 .1 .1 .0;
+      square = z .1 .1 .1 .1 .1 .1 .1;
+    })
+    (λ c. (
+      (c .agreeA, c .agreeSquare),
+      (
+        (c .routeA, c .routeSquare),
+        (
+          c .joinAgrees,
+          (
+            (c .under2, (c .under3, (c .under6, (c .under8, c .under9)))),
+            (c .under13, (c .under11, (c .under17, c .square))),
+          ),
+        ),
+      ),
+    ))
+    (Dec·and
+    (Dec·and (all-agree? (listed-finite roadsA) listA 5) (all-agree? (listed-finite roadsSquare) listSquare 4))
+    (Dec·and
+    (Dec·and
+    (leads? (listed-finite roadsA) listA 0 (2 ∷ 3 ∷ []) 3 (pair 9 3))
+    (leads? (listed-finite roadsSquare) listSquare 0 (1 ∷ 3 ∷ []) 3 (pair 2 2)))
+    (Dec·and (join-agrees? listK listL joinKL)
+    (Dec·and
+    (Dec·and (none-within? (listA 0 3) 2)
+    (Dec·and (best-entry? (listA 0 3) 3 (pair 9 3))
+    (Dec·and (best-entry? (listA 0 3) 6 (pair 9 3))
+    (Dec·and (best-entry? (listA 0 3) 8 (pair 7 7)) (best-entry? (listA 0 3) 9 (pair 4 9))))))
+    (Dec·and (best-entry? joinKL 13 (pair 17 13))
+    (Dec·and (none-within? joinKL 11)
+    (Dec·and (best-entry? joinKL 17 (pair 17 13)) (best-entry? (listSquare 0 3) 2 (pair 2 2))))))))))
+    tt
 
 -- ---- The examples
 
+rightA : (s t : ℕ) → s < 5 → t < 5 → IsTradeOff A s t (listA s t)
+rightA s t = lists-right (alone tableA) (computed .agreeA)
+
+right03 : IsTradeOff A 0 3 (listA 0 3)
+right03 = rightA 0 3 (omega arith) (omega arith)
+
+over2 : Over A 0 3 2
+over2 =
+    record { walk = right03 .real (List·Memᴰ·head refl) .walk; none-within = none-within-list number-lawful right03 (computed .under2) }
+
+joined : IsJoin energy listK listL joinKL
+joined = agrees-join (computed .joinAgrees)
+
 pub starred : Starred
-unfolding search-list number-lawful
 starred =
     record {
-      list01 = listA 0 1 (omega arith) (omega arith);
-      list02 = listA 0 2 (omega arith) (omega arith);
-      list12 = listA 1 2 (omega arith) (omega arith);
-      list31 = listA 3 1 (omega arith) (omega arith);
-      list03 = listA03;
-      list04 = listA 0 4 (omega arith) (omega arith);
-      under2 =
-          record {
-            walk = listA03 .real (List·Memᴰ·head refl) .walk;
-            none-within = none-within-list number-lawful listA03 (under (lookup tableA 0 3) 2);
-          };
-      under3 = entry-is-best number-lawful listA03 (under (lookup tableA 0 3) 3);
-      under6 = entry-is-best number-lawful listA03 (under (lookup tableA 0 3) 6);
+      list01 = rightA 0 1 (omega arith) (omega arith);
+      list02 = rightA 0 2 (omega arith) (omega arith);
+      list12 = rightA 1 2 (omega arith) (omega arith);
+      list31 = rightA 3 1 (omega arith) (omega arith);
+      list03 = right03;
+      list04 = rightA 0 4 (omega arith) (omega arith);
+      under2 = over2;
+      number2 = over-limit over2 refl;
+      under3 = entry-is-best number-lawful right03 (computed .under3);
+      under6 = entry-is-best number-lawful right03 (computed .under6);
       route93 =
           leads-first (alone tableA) (computed .agreeA) (omega arith) 0 (2 ∷ 3 ∷ []) (pair 9 3) (computed .routeA);
-      under8 = entry-is-best number-lawful listA03 (under (lookup tableA 0 3) 8);
-      under9 = entry-is-best number-lawful listA03 (under (lookup tableA 0 3) 9);
+      under8 = entry-is-best number-lawful right03 (computed .under8);
+      under9 = entry-is-best number-lawful right03 (computed .under9);
       same = λ s. alone-best number-lawful s 0;
       same-route = λ s. stay-route A s;
       joined = joined;
-      under13 = entry-is-best-sum number-lawful joined (under joinKL 13);
-      under11 = none-within-join number-lawful joined (under joinKL 11);
-      under17 = entry-is-best-sum number-lawful joined (under joinKL 17);
-      square = entry-is-best number-lawful (lists-right (alone tableSquare) (computed .agreeSquare) (omega arith) (omega arith)) (under (lookup tableSquare 0 3) 2);
+      under13 = entry-is-best-sum number-lawful joined (computed .under13);
+      under11 = none-within-join number-lawful joined (computed .under11);
+      under17 = entry-is-best-sum number-lawful joined (computed .under17);
+      square =
+          entry-is-best number-lawful (lists-right (alone tableSquare) (computed .agreeSquare) (omega arith) (omega arith)) (computed .square);
       square-route =
           leads-first (alone tableSquare) (computed .agreeSquare) (omega arith) 0 (1 ∷ 3 ∷ []) (pair 2 2) (computed .routeSquare);
     }

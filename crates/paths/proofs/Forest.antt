@@ -1,12 +1,12 @@
 -- Laws of forests: a junction has one parent, so its ancestors stand in a row.
 -- In this order: ancestors; the child on a branch; depth; what a forest decides; common ancestors.
 use mathlib.Core.Path.{_≡_, refl, sym, ap}
-use mathlib.Core.Logic.{_⊎_, inl, inr, ⊎-elim}
+use mathlib.Core.Logic.{inl, inr, ⊎-elim}
 use mathlib.Core.Option.{none, some}
-use Prim.Native.Nat.{ℕ, suc, _≤_, _<_}
+use Prim.Native.Nat.{ℕ, suc, _<_}
 use native.Mathlib.Decide.{ℕ-discrete}
 use native.Mathlib.Omega.{arith}
-use Rattle.paths.specs.Forest.{Parents, Above, parent-is, parent-has, Ancestor, Depth, root, child, Returns, IsForest, Related, Common, Deepest}
+use Rattle.paths.specs.Forest.{Parents, Above, parent-is, parent-has, Ancestor, Depth, root, child, IsForest, Related, Common, Deepest}
 use Rattle.paths.proofs.Decisions.{map?, or?}
 
 module _ (parent : Parents) where
@@ -100,20 +100,12 @@ module _ {parent : Parents} where
       deeper (parent-has e h) p =
           let z = deeper h p in record { depth = suc (z .depth); reached = child e (z .reached); larger = omega arith }
 
-  pub ancestor-depth : {u v d e : ℕ} → Ancestor parent u v → Depth parent u d → Depth parent v e → d ≤ e
-  ancestor-depth (inl e) p q = omega (arith, depth-unique (rw e at p) q)
-  ancestor-depth (inr h) p q = omega (arith, above-depth h p q)
-
   -- ---- In a forest
 
   module _ (forest : IsForest parent) where
     -- no junction is its own proper ancestor
     pub above-irrefl : {v : ℕ} → Above parent v v → ⊥
     above-irrefl {v} h = omega (arith, above-depth h (forest .ends v) (forest .ends v))
-
-    -- "a parent chain that returns" is none of a forest's
-    pub not-returns : {v : ℕ} → Returns parent v → ⊥
-    not-returns r = above-irrefl (r .again)
 
     -- two junctions that are each other's ancestors are one
     pub ancestor-antisym : {u v : ℕ} → Ancestor parent u v → Ancestor parent v u → u ≡ v

@@ -1,7 +1,7 @@
 -- The local test of two-way labels: lists stored for each junction and each of its proper ancestors are all right exactly if each
 -- agrees, road by road of its junction, with the lists one road further. One test for each stored list is enough.
 -- In this order: what is shown of all lists; how two junctions stand; the test is exact.
-use mathlib.Core.Path.{_≡_, refl, sym, ap, _∙_}
+use mathlib.Core.Path.{_≡_, refl, sym, _∙_}
 use mathlib.Core.Logic.{_⊎_, inl, inr, ⊎-elim, _↔_}
 use mathlib.Core.List.{List, [], _∷_, List·Memᴰ, List·Memᴰ·head, List·Memᴰ·eq-of-singleton}
 use Prim.Native.Nat.{ℕ}
@@ -9,13 +9,13 @@ use native.Mathlib.Decide.{ℕ-discrete}
 use native.Mathlib.Omega.{arith}
 use Rattle.paths.specs.Figures.{Figures, Lawful}
 use Rattle.paths.specs.Weights.{weights, Beats, Covered, Rising, one}
-use Rattle.paths.specs.Network.{Network, Walk, stay, go, weight}
+use Rattle.paths.specs.Network.{Network, stay, weight}
 use Rattle.paths.specs.TradeOff.{Skyline, IsTradeOff}
-use Rattle.paths.specs.Forest.{Parents, Above, Ancestor, IsForest, Related, RoadsJoinRelated}
+use Rattle.paths.specs.Forest.{Parents, Above, IsForest, Related, RoadsJoinRelated}
 use Rattle.paths.specs.LocalTest.{Rest, arrived, below, above, MetFrom, ListAgrees}
 use Rattle.paths.proofs.Weights.{weights-lawful, unbeaten-below}
 use Rattle.paths.proofs.Local.{Side, start, finish, Peel, first, last-one, Met, LocallyRight, Labels, AllLocallyRight, AllTradeOffs, local-test-exact}
-use Rattle.paths.proofs.Forest.{above-irrefl, above?, above-trans, ancestor-trans, ancestors-related, ancestor-refl}
+use Rattle.paths.proofs.Forest.{above-irrefl, above?, above-trans, ancestor-trans, ancestors-related}
 use Rattle.paths.proofs.TwoWay.{TwoWay, tradeOff-back}
 
 module _ {𝓛 : Figures} (𝓝 : Network 𝓛) (parent : Parents) (stored : ℕ → ℕ → List (weights 𝓛 .Figure)) where

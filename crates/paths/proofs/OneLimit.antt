@@ -1,5 +1,5 @@
 -- Lists with energy as the one limited figure: energy strictly rises and time strictly falls, exactly where the list rises and
--- no entry beats another; so the best answer under C is the last entry whose energy is at most C.
+-- no entry beats another; so the best answer under the limit is the last entry whose energy is at most the limit.
 -- In this order: the two orders are one; lists of definitions are ordered; the last entry within a limit.
 use mathlib.Core.Path.{_≡_, refl, sym, ap, _∙_}
 use mathlib.Core.Logic.{_⊎_, inl, inr, _↔_}
@@ -83,13 +83,13 @@ join-ordered right = rises-ordered (right .rising) (λ p q m k b. right .real k 
 
 -- ---- The last entry within a limit
 
--- the last entry of l whose energy is at most C
-pub record LastWithin (l : List Weight) (C : ℕ) (p : Weight) : Type 0 where
+-- the last entry of l whose energy is at most the limit
+pub record LastWithin (l : List Weight) (limit : ℕ) (p : Weight) : Type 0 where
   pub before : List Weight
   pub after : List Weight
   pub splits : l ≡ before ++ (p ∷ after)
-  pub within : Within energy C p
-  pub beyond : (q : Weight) → List·Memᴰ q after → Within energy C q → ⊥
+  pub within : Within energy limit p
+  pub beyond : (q : Weight) → List·Memᴰ q after → Within energy limit q → ⊥
 
 -- a list is ordered from any entry on, and earlier entries take more time
 ordered-from : (before : List Weight) {p : Weight} {after : List Weight} → Ordered (before ++ (p ∷ after)) → Ordered (p ∷ after)
@@ -119,8 +119,8 @@ placed (List·Memᴰ·head {xs = xs} e) = record { before = []; after = xs; spli
 placed (List·Memᴰ·tail {x = x} m) =
     let z = placed m in record { before = x ∷ z .before; after = z .after; splits = ap (λ k. x ∷ k) (z .splits) }
 
-module _ {l : List Weight} {C : ℕ} {p : Weight} (ordered : Ordered l) where
-  pub last-is-best : LastWithin l C p → BestEntry energy l C p
+module _ {l : List Weight} {limit : ℕ} {p : Weight} (ordered : Ordered l) where
+  pub last-is-best : LastWithin l limit p → BestEntry energy l limit p
   last-is-best z =
       record {
         member = rw (z .splits) (Memᴰ·append-right (z .before) (List·Memᴰ·head refl));
@@ -128,15 +128,15 @@ module _ {l : List Weight} {C : ℕ} {p : Weight} (ordered : Ordered l) where
         least = λ {q} m h. pick q h (List·Memᴰ·append-cases (z .before) (rw (z .splits) at m));
       }
     where
-      rest : (q : Weight) → Within energy C q → (q ≡ p) ⊎ List·Memᴰ q (z .after) → NotLater energy p q
+      rest : (q : Weight) → Within energy limit q → (q ≡ p) ⊎ List·Memᴰ q (z .after) → NotLater energy p q
       rest q h (inl e) = same (sym e)
       rest q h (inr m) = absurd (z .beyond q m h)
 
-      pick : (q : Weight) → Within energy C q → List·Memᴰ q (z .before) ⊎ List·Memᴰ q (p ∷ z .after) → NotLater energy p q
+      pick : (q : Weight) → Within energy limit q → List·Memᴰ q (z .before) ⊎ List·Memᴰ q (p ∷ z .after) → NotLater energy p q
       pick q h (inl m) = sooner (by-time (earlier-slower (z .before) p (z .after) (rw (z .splits) at ordered) m))
       pick q h (inr m) = rest q h (List·Memᴰ·cases-cons m)
 
-  pub best-is-last-entry : BestEntry energy l C p → LastWithin l C p
+  pub best-is-last-entry : BestEntry energy l limit p → LastWithin l limit p
   best-is-last-entry b =
       let z = placed (b .member) in
       record {
@@ -155,11 +155,11 @@ module _ {l : List Weight} {C : ℕ} {p : Weight} (ordered : Ordered l) where
           late (sooner (by-figures e h)) k = omega arith
           late (same e) k = omega (arith, ap (time energy) e)
 
--- The best answer under C is the last entry of the trade-off list whose energy is at most C
+-- The best answer under the limit is the last entry of the trade-off list whose energy is at most the limit
 pub best-is-last :
-    {𝓝 : Network energy} {s t : ℕ} {l : List Weight} {C : ℕ} {p : Weight} →
+    {𝓝 : Network energy} {s t : ℕ} {l : List Weight} {limit : ℕ} {p : Weight} →
     IsTradeOff 𝓝 s t l →
-    Best 𝓝 s t C p ↔ LastWithin l C p
+    Best 𝓝 s t limit p ↔ LastWithin l limit p
 best-is-last right = (
   λ best. best-is-last-entry (tradeOff-ordered right) (best-is-entry number-lawful right best),
   λ z. entry-is-best number-lawful right (last-is-best (tradeOff-ordered right) z),

@@ -1,11 +1,10 @@
 -- Routes: junction lists are ordered place by place, the first route is one, and an unbeaten walk visits no junction twice.
 -- In this order: the order of lists; lists where none stands twice; the first route is one; unbeaten walks.
-use mathlib.Core.Path.{_≡_, refl, sym, ap, ap₂, _∙_}
-use mathlib.Core.Logic.{_⊎_, inl, inr, ⊎-elim}
+use mathlib.Core.Path.{_≡_, refl, sym, ap, ap₂}
+use mathlib.Core.Logic.{⊎-elim}
 use mathlib.Core.List.{List, [], _∷_, List·Memᴰ, List·Memᴰ·head, List·Memᴰ·tail, List·Memᴰ·cases-cons, List·Memᴰ·not-nil, Memᴰ·cast}
 use Prim.Native.Nat.{ℕ, zero, suc, _≤_, _<_}
 use native.Mathlib.Decide.{decLe}
-use native.Mathlib.Nat.{lt-trans, le-antisymm}
 use native.Mathlib.Omega.{arith}
 use lib.ListN.{length}
 use Rattle.paths.specs.Figures.{Figures, Lawful}
@@ -17,18 +16,7 @@ use Rattle.paths.proofs.Walks.{Split, split, split-weighs}
 
 -- ---- The order of junction lists
 
--- "come first when compared place by place" is a total order, and decided
-pub notAfter-refl : (js : List ℕ) → NotAfter js js
-notAfter-refl [] = ended
-notAfter-refl (j ∷ js) = equal refl (notAfter-refl js)
-
-pub notAfter-trans : {js ks ls : List ℕ} → NotAfter js ks → NotAfter ks ls → NotAfter js ls
-notAfter-trans ended k = ended
-notAfter-trans (smaller h) (smaller k) = smaller (lt-trans h k)
-notAfter-trans (smaller h) (equal e k) = smaller (rw e at h)
-notAfter-trans (equal e h) (smaller k) = smaller (rw (← e) at k)
-notAfter-trans (equal e h) (equal f k) = equal (e ∙ f) (notAfter-trans h k)
-
+-- two lists of which neither comes after the other are one
 pub notAfter-antisym : {js ks : List ℕ} → NotAfter js ks → NotAfter ks js → js ≡ ks
 notAfter-antisym ended ended = refl
 notAfter-antisym (smaller h) (smaller k) = absurd (omega arith)
@@ -45,28 +33,6 @@ notAfter-rest (equal e h) g = h
 pub notAfter-begins : {j k : ℕ} {js ks : List ℕ} → NotAfter (j ∷ js) (k ∷ ks) → j ≤ k
 notAfter-begins (smaller h) = omega arith
 notAfter-begins (equal e h) = omega arith
-
-unfoldable pub notAfter? : (js ks : List ℕ) → Dec (NotAfter js ks)
-notAfter? [] ks = yes ended
-notAfter? (j ∷ js) [] = no (λ h. elim h [ ])
-notAfter? (j ∷ js) (k ∷ ks) = pick (decLe j k) (decLe k j) (notAfter? js ks)
-  where
-    pick : Dec (j ≤ k) → Dec (k ≤ j) → Dec (NotAfter js ks) → Dec (NotAfter (j ∷ js) (k ∷ ks))
-    pick (no h) _ _ = no (λ z. h (notAfter-begins z))
-    pick (yes h) (no n) _ = let less : j < k = omega arith in yes (smaller less)
-    pick (yes h) (yes g) (yes m) = yes (equal (le-antisymm h g) m)
-    pick (yes h) (yes g) (no m) = no (λ z. m (notAfter-rest z g))
-
-pub notAfter-total : (js ks : List ℕ) → NotAfter js ks ⊎ NotAfter ks js
-notAfter-total [] ks = inl ended
-notAfter-total (j ∷ js) [] = inr ended
-notAfter-total (j ∷ js) (k ∷ ks) = pick (decLe j k) (decLe k j) (notAfter-total js ks)
-  where
-    pick : Dec (j ≤ k) → Dec (k ≤ j) → NotAfter js ks ⊎ NotAfter ks js → NotAfter (j ∷ js) (k ∷ ks) ⊎ NotAfter (k ∷ ks) (j ∷ js)
-    pick (no h) _ _ = let less : k < j = omega arith in inr (smaller less)
-    pick (yes h) (no n) _ = let less : j < k = omega arith in inl (smaller less)
-    pick (yes h) (yes g) (inl m) = inl (equal (le-antisymm h g) m)
-    pick (yes h) (yes g) (inr m) = inr (equal (le-antisymm g h) m)
 
 -- ---- No junction twice
 

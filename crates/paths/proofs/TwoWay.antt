@@ -1,5 +1,5 @@
 -- Two-way networks: a walk can be walked back for the same weight, so a pair's trade-off list serves both directions.
-use mathlib.Core.Path.{_≡_, refl, sym, ap, _∙_}
+use mathlib.Core.Path.{refl, ap, _∙_}
 use Prim.Native.Nat.{ℕ}
 use mathlib.Core.List.{List}
 use Rattle.paths.specs.Figures.{Figures, Lawful}

@@ -1,8 +1,8 @@
 -- One list only: trade-off lists, joins and best answers are unique. (First routes: `proofs/Route.antt`.)
 -- In this order: rising lists; trade-off lists; joins; answers.
-use mathlib.Core.Path.{_≡_, refl, sym, ap, ap₂, _∙_}
+use mathlib.Core.Path.{_≡_, refl, sym, ap₂, _∙_}
 use mathlib.Core.Logic.{_⊎_, inl, inr, ⊎-elim}
-use mathlib.Core.List.{List, [], _∷_, List·Memᴰ, List·Memᴰ·head, List·Memᴰ·tail, List·Memᴰ·cases-cons, List·Memᴰ·not-nil, Memᴰ·cast}
+use mathlib.Core.List.{List, [], _∷_, List·Memᴰ, List·Memᴰ·head, List·Memᴰ·tail, List·Memᴰ·cases-cons, List·Memᴰ·not-nil}
 use Prim.Native.Nat.{ℕ}
 use Rattle.paths.specs.Figures.{Figures, Lawful}
 use Rattle.paths.specs.Weights.{weights, Rising}
@@ -55,12 +55,12 @@ module _ {𝓛 : Figures} (lawful : Lawful 𝓛) where
   join-unique a b =
       rising-unique (a .rising) (b .rising) (λ p m. b .complete (a .real m)) (λ p m. a .complete (b .real m))
 
-  pub best-unique : {𝓝 : Network 𝓛} {s t : ℕ} {C : 𝓛 .Figure} {p q : Weight} → Best 𝓝 s t C p → Best 𝓝 s t C q → p ≡ q
-  best-unique {C = C} a b =
+  pub best-unique : {𝓝 : Network 𝓛} {s t : ℕ} {limit : 𝓛 .Figure} {p q : Weight} → Best 𝓝 s t limit p → Best 𝓝 s t limit q → p ≡ q
+  best-unique {limit = limit} a b =
       notLater-antisym lawful
       (rw (b .weighs) at (a .least (b .walk) (rw (b .weighs) (b .within))))
       (rw (a .weighs) at (b .least (a .walk) (rw (a .weighs) (a .within))))
 
-  pub bestSum-unique : {k l : List Weight} {C : 𝓛 .Figure} {p q : Weight} → BestSum 𝓛 k l C p → BestSum 𝓛 k l C q → p ≡ q
+  pub bestSum-unique : {k l : List Weight} {limit : 𝓛 .Figure} {p q : Weight} → BestSum 𝓛 k l limit p → BestSum 𝓛 k l limit q → p ≡ q
   bestSum-unique {p = p} {q = q} a b =
       notLater-antisym lawful (a .least q (b .sum) (b .within)) (b .least p (a .sum) (a .within))

@@ -2,7 +2,7 @@
 -- In this order: joining; splitting at a junction; the last arc; a part of an unbeaten walk is unbeaten.
 use mathlib.Core.Path.{_≡_, refl, sym, ap, _∙_}
 use mathlib.Core.Logic.{_⊎_, inl, inr}
-use mathlib.Core.List.{_∷_, List·Memᴰ, List·Memᴰ·head, List·Memᴰ·tail, List·Memᴰ·cases-cons, List·Memᴰ·eq-of-singleton}
+use mathlib.Core.List.{List·Memᴰ, List·Memᴰ·head, List·Memᴰ·cases-cons, List·Memᴰ·eq-of-singleton}
 use Prim.Native.Nat.{ℕ, zero, suc, _<_}
 use native.Mathlib.Omega.{arith}
 use Rattle.paths.specs.Figures.{Figures, Lawful}
@@ -45,11 +45,6 @@ module _ {𝓛 : Figures} {𝓝 : Network 𝓛} where
   start-met stay = List·Memᴰ·head refl
   start-met (go a w) = List·Memᴰ·head refl
 
-  pub finish-met : {s t : ℕ} (w : Walk 𝓝 s t) → List·Memᴰ t (junctions w)
-  unfolding junctions
-  finish-met stay = List·Memᴰ·head refl
-  finish-met (go a w) = List·Memᴰ·tail (finish-met w)
-
   pub split : {s t h : ℕ} (w : Walk 𝓝 s t) → List·Memᴰ h (junctions w) → Split w h
   unfolding junctions _then_
   split stay m = rw (List·Memᴰ·eq-of-singleton m) (record { before = stay; after = stay; whole = refl })
@@ -59,21 +54,6 @@ module _ {𝓛 : Figures} {𝓝 : Network 𝓛} where
       pick f (inl e) = rw e (record { before = stay; after = go a w; whole = refl })
       pick f (inr m′) =
           let z = f m′ in record { before = go a (z .before); after = z .after; whole = ap (λ k. go a k) (z .whole) }
-
-  -- the junctions of two joined walks are those of either
-  pub met-before : {s v t h : ℕ} (w : Walk 𝓝 s v) (k : Walk 𝓝 v t) → List·Memᴰ h (junctions w) → List·Memᴰ h (junctions (w then k))
-  unfolding junctions _then_
-  met-before stay k m = rw (List·Memᴰ·eq-of-singleton m) (start-met k)
-  met-before {h = h} (go {s = s} a w) k m = pick (λ m′. met-before w k m′) (List·Memᴰ·cases-cons m)
-    where
-      pick : (List·Memᴰ h (junctions w) → List·Memᴰ h (junctions (w then k))) → (h ≡ s) ⊎ List·Memᴰ h (junctions w) → List·Memᴰ h (s ∷ junctions (w then k))
-      pick f (inl e) = List·Memᴰ·head e
-      pick f (inr m′) = List·Memᴰ·tail (f m′)
-
-  pub met-after : {s v t h : ℕ} (w : Walk 𝓝 s v) (k : Walk 𝓝 v t) → List·Memᴰ h (junctions k) → List·Memᴰ h (junctions (w then k))
-  unfolding junctions _then_
-  met-after stay k m = m
-  met-after (go a w) k m = List·Memᴰ·tail (met-after w k m)
 
   -- a walk of one arc or more has a last arc
   pub record Last {s t : ℕ} (w : Walk 𝓝 s t) : Type 0 where

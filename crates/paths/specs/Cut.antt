@@ -3,7 +3,7 @@ use mathlib.Core.Path.{_≡_}
 use mathlib.Core.List.{List·Memᴰ}
 use Prim.Native.Nat.{ℕ}
 use Rattle.paths.specs.Figures.{Figures}
-use Rattle.paths.specs.Weights.{weights, Beats, NotLater}
+use Rattle.paths.specs.Weights.{weights, NotLater}
 use Rattle.paths.specs.Network.{Network, Walk, junctions}
 use Rattle.paths.specs.TradeOff.{Skyline}
 use Rattle.paths.specs.Answer.{Best}
@@ -33,12 +33,12 @@ module _ {𝓛 : Figures} (𝓝 : Network 𝓛) (H : ℕ → Type 0) where
     pub adds : first ⊕ second ≡ p
 
   -- Two answered legs: a junction of the set, and the limit cut into two whole parts
-  pub record Legs (s t : ℕ) (C : 𝓛 .Figure) (p : Weight) : Type 0 where
+  pub record Legs (s t : ℕ) (limit : 𝓛 .Figure) (p : Weight) : Type 0 where
     pub at : ℕ
     pub inside : H at
     pub first-limit : 𝓛 .Figure
     pub second-limit : 𝓛 .Figure
-    pub cuts : 𝓛 ._⊕_ first-limit second-limit ≡ C
+    pub cuts : 𝓛 ._⊕_ first-limit second-limit ≡ limit
     pub first : Weight
     pub second : Weight
     pub first-leg : Best 𝓝 s at first-limit first
@@ -46,6 +46,6 @@ module _ {𝓛 : Figures} (𝓝 : Network 𝓛) (H : ℕ → Type 0) where
     pub adds : first ⊕ second ≡ p
 
   -- The best total of two answered legs, over every junction of the set and every cut of the limit
-  pub record BestLegs (s t : ℕ) (C : 𝓛 .Figure) (p : Weight) : Type 0 where
-    pub legs : Legs s t C p
-    pub least : (q : Weight) → Legs s t C q → NotLater 𝓛 p q
+  pub record BestLegs (s t : ℕ) (limit : 𝓛 .Figure) (p : Weight) : Type 0 where
+    pub legs : Legs s t limit p
+    pub least : (q : Weight) → Legs s t limit q → NotLater 𝓛 p q

@@ -1,11 +1,11 @@
 -- The worked examples of SCOPE 8.1 to 8.4, as statements about the definitions. `proofs/Examples.antt` proves them by one computed test.
 use mathlib.Core.Path.{_≡_}
-use mathlib.Core.List.{List, [], _∷_, _++_, List·Memᴰ}
+use mathlib.Core.List.{List, [], _∷_, List·Memᴰ}
 use Prim.Native.Nat.{ℕ, suc, _≤_}
 use Rattle.paths.specs.Weights.{weights, energy, pair, time}
 use Rattle.paths.specs.Network.{Network, Hop}
 use Rattle.paths.specs.TradeOff.{IsTradeOff, IsJoin}
-use Rattle.paths.specs.Answer.{Best, Over, BestSum, NoSum}
+use Rattle.paths.specs.Answer.{Best, Over, Apart, BestSum, NoSum}
 use Rattle.paths.specs.Route.{FirstRoute}
 
 -- A road of the examples: its ends, its time and its energy
@@ -13,17 +13,17 @@ pub record Road : Type 0 where
   pub lower : ℕ
   pub higher : ℕ
   pub seconds : ℕ
-  pub units : ℕ
+  pub energy : ℕ
 
 abbrev pub road : ℕ → ℕ → ℕ → ℕ → Road
-road x y t e = record { lower = x; higher = y; seconds = t; units = e }
+road x y t e = record { lower = x; higher = y; seconds = t; energy = e }
 
 -- The two arcs of each road, with the road's place in the list as record number
 unfoldable pub bothWays : ℕ → List Road → List (Hop energy)
 bothWays r [] = []
 bothWays r (a ∷ roads) =
-    record { from = a .lower; to = a .higher; number = r; weighs = pair (a .seconds) (a .units) }
-    ∷ record { from = a .higher; to = a .lower; number = r; weighs = pair (a .seconds) (a .units) }
+    record { from = a .lower; to = a .higher; number = r; weighs = pair (a .seconds) (a .energy) }
+    ∷ record { from = a .higher; to = a .lower; number = r; weighs = pair (a .seconds) (a .energy) }
     ∷ bothWays (suc r) roads
 
 -- An arc that stands in a list and takes time
@@ -56,6 +56,13 @@ listK = pair 9 8 ∷ pair 8 9 ∷ []
 abbrev pub listL : List (weights energy .Figure)
 listL = pair 9 4 ∷ pair 8 9 ∷ []
 
+-- The number that goes with an answer under a limit (SCOPE 4.2): 0 with the best answer, 22 and 23 where there is none
+pub data Numbered (𝓝 : Network energy) (s t limit number : ℕ) : Type 0 where
+  answered : {p : weights energy .Figure} → Best 𝓝 s t limit p → number ≡ 0 → Numbered 𝓝 s t limit number
+  not-connected : Apart 𝓝 s t → number ≡ 22 → Numbered 𝓝 s t limit number
+  over-limit : Over 𝓝 s t limit → number ≡ 23 → Numbered 𝓝 s t limit number
+
+-- SCOPE 8.1 to 8.4
 pub record Starred : Type 0 where
   -- A: lists of a junction and its ancestor
   pub list01 : IsTradeOff A 0 1 (pair 6 3 ∷ pair 2 5 ∷ [])
@@ -67,6 +74,7 @@ pub record Starred : Type 0 where
   pub list04 : IsTradeOff A 0 4 (pair 12 6 ∷ pair 10 10 ∷ pair 7 12 ∷ [])
   -- A, from 0 to 3, by limits
   pub under2 : Over A 0 3 2
+  pub number2 : Numbered A 0 3 2 23
   pub under3 : Best A 0 3 3 (pair 9 3)
   pub under6 : Best A 0 3 6 (pair 9 3)
   pub route93 : FirstRoute A 0 3 (pair 9 3) (0 ∷ 2 ∷ 3 ∷ [])

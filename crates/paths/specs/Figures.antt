@@ -19,7 +19,7 @@ pub record Figures : Type 1 where
   -- stands earlier in a list
   pub _≺_ : Figure → Figure → Type 0
 
--- One number: energy units, tolls or seconds
+-- One number: energy, tolls or seconds
 abbrev pub number : Figures
 number = record { Figure = ℕ; _⊕_ = _+_; 𝟘 = 0; _⊑_ = _≤_; _≺_ = _<_ }
 

@@ -2,7 +2,7 @@
 use mathlib.Core.Path.{_≡_}
 use mathlib.Core.Logic.{_⊎_}
 use mathlib.Core.Option.{Option, none, some}
-use Prim.Native.Nat.{ℕ, zero, suc, _<_}
+use Prim.Native.Nat.{ℕ, zero, suc}
 use Rattle.paths.specs.Figures.{Figures}
 use Rattle.paths.specs.Weights.{weights}
 use Rattle.paths.specs.Network.{Network}

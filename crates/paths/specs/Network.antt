@@ -2,7 +2,6 @@
 --
 -- A network has directed arcs, each with the number of the record it comes from. A two-way road is two arcs with one record
 -- number; parallel roads are arcs that share both ends.
-use mathlib.Core.Path.{_≡_}
 use mathlib.Core.List.{List, [], _∷_, List·Memᴰ}
 use Prim.Native.Nat.{ℕ, _≤_}
 use Rattle.paths.specs.Figures.{Figures}

@@ -2,7 +2,7 @@
 use mathlib.Core.Path.{_≡_}
 use mathlib.Core.List.{List, [], _∷_, List·Memᴰ}
 use Prim.Native.Nat.{ℕ, _<_}
-use Rattle.paths.specs.Figures.{Figures, number, Both, _and_}
+use Rattle.paths.specs.Figures.{Figures, number, _and_}
 
 -- The weights over limited figures 𝓛: listed by 𝓛's order and then by time, as pairs are listed by energy (SCOPE 2.3)
 abbrev pub weights : Figures → Figures
@@ -40,9 +40,9 @@ module _ (𝓛 : Figures) where
     pub no-larger : p ⊑ q
     pub smaller : p ≡ q → ⊥
 
-  -- Within C: not above it
+  -- Within the limit: not above it
   abbrev pub Within : 𝓛 .Figure → Weight → Type 0
-  Within C p = 𝓛 ._⊑_ (spent p) C
+  Within limit p = 𝓛 ._⊑_ (spent p) limit
 
   -- p comes before q as an answer: by time, then by the limited figures
   pub data Sooner (p q : Weight) : Type 0 where

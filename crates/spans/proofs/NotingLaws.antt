@@ -13,29 +13,29 @@ use Rattle.spans.specs.working.Noting.{spanSeconds, noEnergy, LoweredAt,
 
 -- ---- One energy
 
-module _ {second units : ℕ} {before after : List ℕ} (long : length before ≡ spanSeconds) (inside : second < spanSeconds) where
-  at-long : LoweredAt second units before after → length after ≡ spanSeconds
+module _ {second energy : ℕ} {before after : List ℕ} (long : length before ≡ spanSeconds) (inside : second < spanSeconds) where
+  at-long : LoweredAt second energy before after → length after ≡ spanSeconds
   at-long (lowered h e) = rw e (simp length-set long)
   at-long (kept h e) = rw e long
 
-  at-least : LoweredAt second units before after → getD after second 0 ≤ units
-  at-least (lowered h e) = omega (arith, ap (λ l. getD l second 0) e ∙ getD-set-same before second units 0 (omega arith))
+  at-least : LoweredAt second energy before after → getD after second 0 ≤ energy
+  at-least (lowered h e) = omega (arith, ap (λ l. getD l second 0) e ∙ getD-set-same before second energy 0 (omega arith))
   at-least (kept h e) = rw e h
 
-  at-other : (k : ℕ) → (k ≡ second → ⊥) → LoweredAt second units before after → getD after k 0 ≡ getD before k 0
-  at-other k apart (lowered h e) = rw e (getD-set-other before second k units 0 apart)
+  at-other : (k : ℕ) → (k ≡ second → ⊥) → LoweredAt second energy before after → getD after k 0 ≡ getD before k 0
+  at-other k apart (lowered h e) = rw e (getD-set-other before second k energy 0 apart)
   at-other k apart (kept h e) = rw e
 
-  at-same : LoweredAt second units before after → (getD after second 0 ≡ getD before second 0) ⊎ ((getD after second 0 ≡ units) × (units < getD before second 0))
-  at-same (lowered h e) = inr (rw e (getD-set-same before second units 0 (omega arith)), h)
+  at-same : LoweredAt second energy before after → (getD after second 0 ≡ getD before second 0) ⊎ ((getD after second 0 ≡ energy) × (energy < getD before second 0))
+  at-same (lowered h e) = inr (rw e (getD-set-same before second energy 0 (omega arith)), h)
   at-same (kept h e) = inl (rw e)
 
 -- the energy of a pair of the set that takes so long is noted
 pub lowered-one :
-    {Has : Weight → Type 0} {first second units : ℕ} {before after : List ℕ} → length before ≡ spanSeconds → second < spanSeconds →
-    LoweredAt second units before after → Has (pair (first + second) units) →
-    ((k e : ℕ) → Has (pair (first + k) e) → (k ≡ second) × (e ≡ units)) → Lowered Has first before after
-lowered-one {Has} {first} {second} {units} {before} {after} long inside one has only =
+    {Has : Weight → Type 0} {first second energy : ℕ} {before after : List ℕ} → length before ≡ spanSeconds → second < spanSeconds →
+    LoweredAt second energy before after → Has (pair (first + second) energy) →
+    ((k e : ℕ) → Has (pair (first + k) e) → (k ≡ second) × (e ≡ energy)) → Lowered Has first before after
+lowered-one {Has} {first} {second} {energy} {before} {after} long inside one has only =
     record {
       long = at-long long inside one;
       no-higher = λ k. no-higher k (ℕ-discrete k second);

@@ -58,24 +58,24 @@ module _ {sums : ℕ → Weight} where
       module _ {second : ℕ} (behind : second ≡ takes - first) (later : first ≤ takes) where
         -- the entry before is noted too
         pub entry-more :
-            {units : ℕ} {lower : List ℕ} → units ≡ spent energy (sums (j - 1)) → second < spanSeconds → LoweredAt second units after lower →
+            {spends : ℕ} {lower : List ℕ} → spends ≡ spent energy (sums (j - 1)) → second < spanSeconds → LoweredAt second spends after lower →
             EntryNoted sums end first before (j - 1) lower
-        entry-more {units} {lower} units-is inside one =
+        entry-more {spends} {lower} energy-is inside one =
             record {
               in-range = omega (arith, now .in-range);
               so-far = lowered-then (entry-parts some (now .in-range)) (now .so-far) (lowered-one (now .so-far .long) inside one has only);
             }
           where
-            has : EntrySum sums (j - 1) j (pair (first + second) units)
+            has : EntrySum sums (j - 1) j (pair (first + second) spends)
             has =
                 let t : first + second ≡ time energy (sums (j - 1)) = omega (arith, behind, time-is) in
-                record { at = j - 1; not-before = omega arith; below = omega arith; adds = λ n. pair (t n) (units-is n) }
+                record { at = j - 1; not-before = omega arith; below = omega arith; adds = λ n. pair (t n) (energy-is n) }
 
-            only : (k e : ℕ) → EntrySum sums (j - 1) j (pair (first + k) e) → (k ≡ second) × (e ≡ units)
+            only : (k e : ℕ) → EntrySum sums (j - 1) j (pair (first + k) e) → (k ≡ second) × (e ≡ spends)
             only k e h =
                 let at : h .at ≡ j - 1 = omega (arith, h .not-before, h .below) in
                 let adds : pair (first + k) e ≡ sums (j - 1) = h .adds ∙ ap sums at in
-                (omega (arith, ap (time energy) adds, behind, time-is), omega (arith, ap (spent energy) adds, units-is))
+                (omega (arith, ap (time energy) adds, behind, time-is), omega (arith, ap (spent energy) adds, energy-is))
 
         -- it stands behind the span, and so do those before it, which take longer
         pub entry-beyond :
@@ -98,24 +98,24 @@ pub record EnergiesRise (sums : ℕ → ℕ → Weight) (near far : ℕ) : Type 
   pub near-rise : (a b j : ℕ) → a ≤ b → b < near → spent energy (sums a j) ≤ spent energy (sums b j)
   pub far-rise : (i a b : ℕ) → a ≤ b → b < far → spent energy (sums i a) ≤ spent energy (sums i b)
 
--- Of the first `from` sums of an entry those before place r are within C, up to the last of them
-pub record FittingSums (sums : ℕ → Weight) (C from r : ℕ) : Type 0 where
+-- Of the first `from` sums of an entry those before place r are within the limit, up to the last of them
+pub record FittingSums (sums : ℕ → Weight) (limit from r : ℕ) : Type 0 where
   pub in-range : r ≤ from
-  pub over : (k : ℕ) → r ≤ k → k < from → C < spent energy (sums k)
-  pub fits : 0 < r → spent energy (sums (r - 1)) ≤ C
+  pub over : (k : ℕ) → r ≤ k → k < from → limit < spent energy (sums k)
+  pub fits : 0 < r → spent energy (sums (r - 1)) ≤ limit
 
 -- The sums of the first i near entries are noted, and beside a later one no far entry from place j on fits
-pub record SumsNoted (sums : ℕ → ℕ → Weight) (near far C first : ℕ) (before : List ℕ) (i j : ℕ) (after : List ℕ) : Type 0 where
+pub record SumsNoted (sums : ℕ → ℕ → Weight) (near far limit first : ℕ) (before : List ℕ) (i j : ℕ) (after : List ℕ) : Type 0 where
   pub in-near : i ≤ near
   pub in-far : j ≤ far
-  pub over : (a b : ℕ) → i ≤ a → a < near → j ≤ b → b < far → C < spent energy (sums a b)
-  pub so-far : Lowered (PairWithin (SumOf sums i far) C) first before after
+  pub over : (a b : ℕ) → i ≤ a → a < near → j ≤ b → b < far → limit < spent energy (sums a b)
+  pub so-far : Lowered (PairWithin (SumOf sums i far) limit) first before after
 
 -- none at first
 pub sums-none :
-    (sums : ℕ → ℕ → Weight) (near far C first : ℕ) {j : ℕ} {leasts : List ℕ} → length leasts ≡ spanSeconds → j ≡ far →
-    SumsNoted sums near far C first leasts 0 j leasts
-sums-none sums near far C first long e =
+    (sums : ℕ → ℕ → Weight) (near far limit first : ℕ) {j : ℕ} {leasts : List ℕ} → length leasts ≡ spanSeconds → j ≡ far →
+    SumsNoted sums near far limit first leasts 0 j leasts
+sums-none sums near far limit first long e =
     record {
       in-near = omega arith;
       in-far = omega arith;
@@ -124,22 +124,22 @@ sums-none sums near far C first long e =
     }
 
 -- a sum of the first entries is one of more
-sums-more : {sums : ℕ → ℕ → Weight} {i n far C : ℕ} → i ≤ n → (p : Weight) → PairWithin (SumOf sums i far) C p → PairWithin (SumOf sums n far) C p
+sums-more : {sums : ℕ → ℕ → Weight} {i n far limit : ℕ} → i ≤ n → (p : Weight) → PairWithin (SumOf sums i far) limit p → PairWithin (SumOf sums n far) limit p
 sums-more h p m =
     record {
       has = record { i = m .has .i; j = m .has .j; in-near = omega (arith, m .has .in-near); in-far = m .has .in-far; adds = m .has .adds };
       within = m .within;
     }
 
-module _ {sums : ℕ → ℕ → Weight} {near far C first i j : ℕ} {before after : List ℕ} (now : SumsNoted sums near far C first before i j after) where
+module _ {sums : ℕ → ℕ → Weight} {near far limit first i j : ℕ} {before after : List ℕ} (now : SumsNoted sums near far limit first before i j after) where
   -- beside the near entries that are left no far entry fits
   sums-done :
-      ((a b : ℕ) → i ≤ a → a < near → b < far → C < spent energy (sums a b)) → Lowered (PairWithin (SumOf sums near far) C) first before after
+      ((a b : ℕ) → i ≤ a → a < near → b < far → limit < spent energy (sums a b)) → Lowered (PairWithin (SumOf sums near far) limit) first before after
   sums-done rest = lowered-same (sums-more (now .in-near)) (λ k e h m. back k e m (decLe i (m .has .i))) (now .so-far)
     where
       back :
-          (k e : ℕ) (m : PairWithin (SumOf sums near far) C (pair (first + k) e)) → Dec (i ≤ m .has .i) →
-          PairWithin (SumOf sums i far) C (pair (first + k) e)
+          (k e : ℕ) (m : PairWithin (SumOf sums near far) limit (pair (first + k) e)) → Dec (i ≤ m .has .i) →
+          PairWithin (SumOf sums i far) limit (pair (first + k) e)
       back k e m (yes later) =
           absurd (omega (arith, m .within, ap (spent energy) (m .has .adds), rest (m .has .i) (m .has .j) later (m .has .in-near) (m .has .in-far)))
       back k e m (no earlier) =
@@ -149,43 +149,43 @@ module _ {sums : ℕ → ℕ → Weight} {near far C first i j : ℕ} {before af
           }
 
   -- there is no near entry more
-  pub sums-all : near ≤ i → Lowered (PairWithin (SumOf sums near far) C) first before after
+  pub sums-all : near ≤ i → Lowered (PairWithin (SumOf sums near far) limit) first before after
   sums-all h = sums-done (λ a b g m n. absurd (omega arith))
 
-  module _ (rise : EnergiesRise sums near far) (turn : i < near) {r : ℕ} (fitting : FittingSums (sums i) C j r) where
+  module _ (rise : EnergiesRise sums near far) (turn : i < near) {r : ℕ} (fitting : FittingSums (sums i) limit j r) where
     -- beside entry i and what is behind it nothing fits from place r on
-    sums-over : (a b : ℕ) → i ≤ a → a < near → r ≤ b → b < far → C < spent energy (sums a b)
+    sums-over : (a b : ℕ) → i ≤ a → a < near → r ≤ b → b < far → limit < spent energy (sums a b)
     sums-over a b h g m n = pick (decLe j b)
       where
-        pick : Dec (j ≤ b) → C < spent energy (sums a b)
+        pick : Dec (j ≤ b) → limit < spent energy (sums a b)
         pick (yes behind) = now .over a b h g behind n
         pick (no earlier) = omega (arith, fitting .over b m (omega arith), rise .near-rise i a b h g)
 
     -- nothing fits
-    pub sums-unfit : r ≡ 0 → Lowered (PairWithin (SumOf sums near far) C) first before after
+    pub sums-unfit : r ≡ 0 → Lowered (PairWithin (SumOf sums near far) limit) first before after
     sums-unfit e = sums-done (λ a b h g m. sums-over a b h g (omega arith) m)
 
     -- the first far entries fit
-    sums-fit : (b : ℕ) → b < r → spent energy (sums i b) ≤ C
+    sums-fit : (b : ℕ) → b < r → spent energy (sums i b) ≤ limit
     sums-fit b h =
         omega (arith, fitting .fits (omega arith), rise .far-rise i b (r - 1) (omega arith) (omega (arith, fitting .in-range, now .in-far)))
 
     pub sums-end : r ≤ far
     sums-end = omega (arith, fitting .in-range, now .in-far)
 
-    -- the sum of entry i and such an entry is one within C
-    sums-within : {low : ℕ} (p : Weight) → EntrySum (sums i) low r p → PairWithin (SumOf sums (i + 1) far) C p
+    -- the sum of entry i and such an entry is one within the limit
+    sums-within : {low : ℕ} (p : Weight) → EntrySum (sums i) low r p → PairWithin (SumOf sums (i + 1) far) limit p
     sums-within p h =
         record {
           has = record { i = i; j = h .at; in-near = omega arith; in-far = omega (arith, h .below, sums-end); adds = h .adds };
           within = omega (arith, ap (spent energy) (h .adds), sums-fit (h .at) (h .below));
         }
 
-    pub sums-later : NoneBefore (PairWithin (SumOf sums near far) C) first → NoneBefore (EntrySum (sums i) 0 r) first
+    pub sums-later : NoneBefore (PairWithin (SumOf sums near far) limit) first → NoneBefore (EntrySum (sums i) 0 r) first
     sums-later none = record { later = λ p h. none .later p (sums-more (omega arith) p (sums-within p h)) }
 
     -- entry i is noted too
-    pub sums-next : {lower : List ℕ} → Lowered (EntrySum (sums i) 0 r) first after lower → SumsNoted sums near far C first before (i + 1) r lower
+    pub sums-next : {lower : List ℕ} → Lowered (EntrySum (sums i) 0 r) first after lower → SumsNoted sums near far limit first before (i + 1) r lower
     sums-next here =
         record {
           in-near = omega arith;
@@ -194,13 +194,13 @@ module _ {sums : ℕ → ℕ → Weight} {near far C first i j : ℕ} {before af
           so-far = lowered-then (record { cases = cases; first-part = sums-more (omega arith); second-part = sums-within }) (now .so-far) here;
         }
       where
-        cases : (p : Weight) → PairWithin (SumOf sums (i + 1) far) C p → PairWithin (SumOf sums i far) C p ⊎ EntrySum (sums i) 0 r p
+        cases : (p : Weight) → PairWithin (SumOf sums (i + 1) far) limit p → PairWithin (SumOf sums i far) limit p ⊎ EntrySum (sums i) 0 r p
         cases p h = pick (ℕ-discrete (h .has .i) i) (decLe r (h .has .j))
           where
             adds : h .has .i ≡ i → p ≡ sums i (h .has .j)
             adds e = h .has .adds ∙ ap (λ a. sums a (h .has .j)) e
 
-            pick : Dec (h .has .i ≡ i) → Dec (r ≤ h .has .j) → PairWithin (SumOf sums i far) C p ⊎ EntrySum (sums i) 0 r p
+            pick : Dec (h .has .i ≡ i) → Dec (r ≤ h .has .j) → PairWithin (SumOf sums i far) limit p ⊎ EntrySum (sums i) 0 r p
             pick (yes e) (yes behind) =
                 absurd (omega (arith, h .within, ap (spent energy) (adds e), sums-over i (h .has .j) (omega arith) turn behind (h .has .in-far)))
             pick (yes e) (no earlier) = inr (record { at = h .has .j; not-before = omega arith; below = omega arith; adds = adds e })

@@ -111,12 +111,12 @@ module _ {Has : Weight → Type 0} {bound : ℕ} {span : Span} {leasts : List �
       pick (yes not-before) = let e : second ≡ r = omega arith in (omega (arith, there), rw e at at-least)
       pick (no before) = absurd (omega (arith, at-least, sought .passed second (omega (arith, now .none-before p h w)) (omega arith)))
 
-  module _ {takes units : ℕ} (is-time : takes ≡ span .first .0 + r) (is-units : units ≡ getD leasts r 0) where
+  module _ {takes spends : ℕ} (is-time : takes ≡ span .first .0 + r) (is-energy : spends ≡ getD leasts r 0) where
     -- the second found has the best pair below the bound
-    pub noted-best : BestBelow Has bound (pair takes units)
+    pub noted-best : BestBelow Has bound (pair takes spends)
     noted-best =
         record {
-          among = rw (is-time, is-units) real;
+          among = rw (is-time, is-energy) real;
           below = omega (arith, sought .found inside);
           least = λ q h w. order q h w (decLe (time energy q) (span .first .0 + r));
         }
@@ -124,19 +124,19 @@ module _ {Has : Weight → Type 0} {bound : ℕ} {span : Span} {leasts : List �
         real : Has (pair (span .first .0 + r) (getD leasts r 0))
         real = ⊎-elim (λ e. absurd (omega (arith, sought .found inside))) (λ z. z) (now .real r (sought .not-before) inside)
 
-        order : (q : Weight) → Has q → spent energy q < bound → Dec (time energy q ≤ span .first .0 + r) → NotLater energy (pair takes units) q
+        order : (q : Weight) → Has q → spent energy q < bound → Dec (time energy q ≤ span .first .0 + r) → NotLater energy (pair takes spends) q
         order q h w (no later) = sooner (by-time (omega arith))
-        order q h w (yes late) = pick (ℕ-discrete units (spent energy q))
+        order q h w (yes late) = pick (ℕ-discrete spends (spent energy q))
           where
             there : (time energy q ≡ span .first .0 + r) × (getD leasts r 0 ≤ spent energy q)
             there = noted-least q h w late
 
-            pick : Dec (units ≡ spent energy q) → NotLater energy (pair takes units) q
+            pick : Dec (spends ≡ spent energy q) → NotLater energy (pair takes spends) q
             pick (yes e) = let t : takes ≡ time energy q = omega (arith, there .0) in same (λ n. pair (t n) (e n))
             pick (no apart) = sooner (by-figures (omega (arith, there .0)) (omega (arith, there .1)))
 
     -- behind it the span waits for what is below it
-    pub noted-waits : Waiting Has units (record { first = span .first; noted = span .noted; passed = r + 1 }) leasts
+    pub noted-waits : Waiting Has spends (record { first = span .first; noted = span .noted; passed = r + 1 }) leasts
     noted-waits =
         record {
           long = now .long;
@@ -147,6 +147,6 @@ module _ {Has : Weight → Type 0} {bound : ℕ} {span : Span} {leasts : List �
           none-before = λ p h w. behind p h w (decLe (time energy p) (span .first .0 + r));
         }
       where
-        behind : (p : Weight) → Has p → spent energy p < units → Dec (time energy p ≤ span .first .0 + r) → span .first .0 + (r + 1) ≤ time energy p
+        behind : (p : Weight) → Has p → spent energy p < spends → Dec (time energy p ≤ span .first .0 + r) → span .first .0 + (r + 1) ≤ time energy p
         behind p h w (no later) = omega arith
         behind p h w (yes late) = absurd (omega (arith, noted-least p h (omega (arith, sought .found inside)) late .1))

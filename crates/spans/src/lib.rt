@@ -49,12 +49,12 @@ pub fn time_behind(first: Seconds, seconds: usize) -> Seconds
 }
 
 // Notes an energy for a second if it is less than what is noted there.
-pub fn lower(leasts: &mut [u32; 2048], second: usize, units: Energy)
+pub fn lower(leasts: &mut [u32; 2048], second: usize, energy: Energy)
     requires { ⌜ (length (now leasts) ≡ spanSeconds) × (second < spanSeconds) ⌝ }
-    ensures { λ _. ⌜ LoweredAt second (units .0) (now (leasts .entry)) (now (leasts .exit)) ⌝ }
+    ensures { λ _. ⌜ LoweredAt second (energy .0) (now (leasts .entry)) (now (leasts .exit)) ⌝ }
 {
-    if units.below(Energy(leasts[second])) {
-        leasts[second] = units.0;
+    if energy.below(Energy(leasts[second])) {
+        leasts[second] = energy.0;
     }
 }
 

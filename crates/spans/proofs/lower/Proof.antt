@@ -1,6 +1,5 @@
 -- What is noted for a second changes only to a lesser energy.
 use mathlib.Core.Path.{refl, sym, _∙_}
-use native.Mathlib.Omega.{arith}
 use borrow.Author.Tests.{ltb-true, ltb-false}
 use Rattle.spans.specs.working.Noting.{lowered, kept}
 use borrow.Author.Needs.{needs}

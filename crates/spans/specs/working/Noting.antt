@@ -2,9 +2,9 @@
 use mathlib.Core.Path.{_≡_}
 use mathlib.Core.Logic.{_⊎_}
 use mathlib.Core.List.{List}
-use Prim.Native.Nat.{ℕ, _+_, _-_, _≤_, _<_}
+use Prim.Native.Nat.{ℕ, _+_, _≤_, _<_}
 use lib.ListN.{length, getD, set}
-use Rattle.paths.specs.Weights.{energy, pair, time, spent, Within}
+use Rattle.paths.specs.Weights.{energy, pair, time, Within}
 use Rattle.lists.specs.Entries.{Weight}
 
 -- How many seconds a span has
@@ -32,10 +32,10 @@ pub record SumOf (sums : ℕ → ℕ → Weight) (near far : ℕ) (p : Weight) :
   pub in-far : j < far
   pub adds : p ≡ sums i j
 
--- p is of the set, and within C
-pub record PairWithin (Has : Weight → Type 0) (C : ℕ) (p : Weight) : Type 0 where
+-- p is of the set, and within the limit
+pub record PairWithin (Has : Weight → Type 0) (limit : ℕ) (p : Weight) : Type 0 where
   pub has : Has p
-  pub within : Within energy C p
+  pub within : Within energy limit p
 
 -- No pair of the set takes less than the first second
 pub record NoneBefore (Has : Weight → Type 0) (first : ℕ) : Type 0 where
@@ -44,9 +44,9 @@ pub record NoneBefore (Has : Weight → Type 0) (first : ℕ) : Type 0 where
 -- ---- What is noted
 
 -- One energy is noted for a second if it is less than what was noted there
-pub data LoweredAt (second units : ℕ) (before after : List ℕ) : Type 0 where
-  lowered : units < getD before second 0 → after ≡ set before second units → LoweredAt second units before after
-  kept : getD before second 0 ≤ units → after ≡ before → LoweredAt second units before after
+pub data LoweredAt (second energy : ℕ) (before after : List ℕ) : Type 0 where
+  lowered : energy < getD before second 0 → after ≡ set before second energy → LoweredAt second energy before after
+  kept : getD before second 0 ≤ energy → after ≡ before → LoweredAt second energy before after
 
 -- Each second from the first on has the least of what was noted there and the energies of the set's pairs that take so long
 pub record Lowered (Has : Weight → Type 0) (first : ℕ) (before after : List ℕ) : Type 0 where

@@ -2,16 +2,17 @@
 use mathlib.Core.Path.{_≡_}
 use mathlib.Core.Logic.{_⊎_}
 use mathlib.Core.List.{List}
-use Prim.Native.Nat.{ℕ, _+_, _≤_, _<_}
+use Prim.Native.Nat.{ℕ, _+_, _-_, _≤_, _<_}
 use lib.ListN.{length, getD}
 use Rattle.paths.specs.Weights.{energy, pair, time, spent, NotLater}
 use Rattle.lists.specs.Entries.{Weight}
+use Rattle.lists.specs.working.Lists.{aboveAll}
 use Rattle.spans.specs.working.Noting.{spanSeconds, noEnergy}
 use Rattle.spans.specs.declared.Span.{Span}
 
 -- No sum takes longer, so that the seconds of a span fit into 32 bits
 abbrev pub mostTime : ℕ
-mostTime = 2147483646
+mostTime = aboveAll - 1
 
 -- Every pair of the set below the bound takes as long as a second that is not passed, or longer; those in the span are noted
 pub record Waiting (Has : Weight → Type 0) (bound : ℕ) (span : Span) (leasts : List ℕ) : Type 0 where

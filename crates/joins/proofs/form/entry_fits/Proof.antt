@@ -1,5 +1,5 @@
-use Rattle.joins.proofs.Rules.{fits-not-time, fits-not-energy, fits-order}
 -- An entry fits if each of its three tests holds, and the first that fails decides.
+use Rattle.joins.proofs.Rules.{fits-not-time, fits-not-energy, fits-order}
 use Rattle.lists.proofs.Tests.{test-fails, test-holds}
 use borrow.Author.Needs.{needs}
 use Rattle.joins.proofs.form.entry_fits.Statement.{statement}

@@ -1,5 +1,5 @@
-use Rattle.joins.proofs.Rules.{lengths-differ, more-lengths-differ, ill-formed, more-ill-formed, both-formed}
 -- The tests stand in the order of the numbers, the first list before the second at each.
+use Rattle.joins.proofs.Rules.{lengths-differ, more-lengths-differ, ill-formed, more-ill-formed, both-formed}
 use Rattle.lists.proofs.Tests.{test-fails, test-holds}
 use borrow.Author.Needs.{needs}
 use Rattle.joins.proofs.form.join_number.Statement.{statement}

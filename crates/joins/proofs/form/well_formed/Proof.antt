@@ -1,6 +1,6 @@
-use Rattle.joins.proofs.Rules.{formed-long, formed-not, formed-all}
 -- The list is short enough, and the loop's invariant says that every entry below i fits; the measure is what is left of the length.
-use Rattle.joins.specs.Form.{mostEntries, entryFits}
+use Rattle.joins.proofs.Rules.{formed-long, formed-not, formed-all}
+use Rattle.joins.specs.Form.{entryFits}
 use Rattle.refusals.proofs.Order.{every-none, every-more}
 use Rattle.refusals.specs.Order.{every}
 use native.Mathlib.Omega.{arith}

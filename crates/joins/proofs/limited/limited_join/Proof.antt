@@ -1,5 +1,5 @@
-use Rattle.joins.proofs.SumAnswers.{passed-lists, answer-refused, answer-over, answer-found}
 -- The number decides first; then the best places give the best sum, and no place means no sum.
+use Rattle.joins.proofs.SumAnswers.{passed-lists, answer-refused, answer-over, answer-found}
 use Rattle.joins.proofs.Rules.{both-pass}
 use Rattle.lists.proofs.Entries.{places-at}
 use native.Mathlib.Omega.{arith}

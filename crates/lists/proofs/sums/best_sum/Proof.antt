@@ -1,5 +1,5 @@
-use Rattle.lists.proofs.Walk.{Walked, energies-add, fit-whole, walk-empty, walk-nothing, walk-starts, walk-fits, walk-more, walk-stops, walk-ends}
 -- The loop's invariant says what is known after i entries of the first list: their best sum, and that beside a later entry none of the second list from j on fits.
+use Rattle.lists.proofs.Walk.{Walked, energies-add, fit-whole, walk-empty, walk-nothing, walk-starts, walk-fits, walk-more, walk-stops, walk-ends}
 use mathlib.Core.Logic.{⊎-elim, inl, inr}
 use native.Mathlib.Omega.{arith}
 use lib.ListN.{length}

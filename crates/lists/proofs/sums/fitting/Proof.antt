@@ -7,10 +7,10 @@ use Rattle.lists.proofs.sums.fitting.Statement.{statement}
 use Rattle.lists.proofs.sums.fitting.Tie as tie
 
 abbrev Inv-loop : tie.InvT-loop
-Inv-loop more-energies units limit from j₀ j = NoneFrom more-energies (units .0) (limit .0) from j
+Inv-loop more-energies energy limit from j₀ j = NoneFrom more-energies (energy .0) (limit .0) from j
 
 abbrev μ-loop : tie.MeasureT-loop
-μ-loop more-energies units limit from j₀ j = j
+μ-loop more-energies energy limit from j₀ j = j
 
 loop-holds : tie.Need-loop-holds Inv-loop μ-loop
 loop-holds c = search needs

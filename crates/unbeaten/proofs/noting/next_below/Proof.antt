@@ -2,10 +2,10 @@
 use mathlib.Core.Path.{refl}
 use native.Mathlib.Omega.{arith}
 use Rattle.lists.proofs.Entries.{places-at}
-use Rattle.joins.proofs.NotingLaws.{lists-asked, places-asked, span-asked, below-found, below-none, below-noted}
+use Rattle.unbeaten.proofs.NotingLaws.{lists-asked, places-asked, span-asked, below-found, below-none, below-noted}
 use borrow.Author.Needs.{needs}
-use Rattle.joins.proofs.noting.next_below.Statement.{statement}
-use Rattle.joins.proofs.noting.next_below.Tie as tie
+use Rattle.unbeaten.proofs.noting.next_below.Statement.{statement}
+use Rattle.unbeaten.proofs.noting.next_below.Tie as tie
 
 first-below-requires : tie.Need-first-below-requires
 first-below-requires c κs = search needs

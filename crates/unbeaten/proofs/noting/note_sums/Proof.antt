@@ -4,10 +4,10 @@ use native.Mathlib.Omega.{arith}
 use lib.ListN.{length}
 use Rattle.lists.specs.working.Sums.{sumAt}
 use Rattle.spans.proofs.TableLaws.{SumsNoted, sums-none, sums-all, sums-unfit, sums-end, sums-later, sums-next}
-use Rattle.joins.proofs.NotingLaws.{sums-rise, fitting-asked, entry-small}
+use Rattle.unbeaten.proofs.NotingLaws.{sums-rise, fitting-asked, entry-small}
 use borrow.Author.Needs.{needs}
-use Rattle.joins.proofs.noting.note_sums.Statement.{statement}
-use Rattle.joins.proofs.noting.note_sums.Tie as tie
+use Rattle.unbeaten.proofs.noting.note_sums.Statement.{statement}
+use Rattle.unbeaten.proofs.noting.note_sums.Tie as tie
 
 abbrev Inv-loop : tie.InvT-loop
 Inv-loop times energies more-times more-energies limit first leasts₀ j₀ i₀ leasts j i =

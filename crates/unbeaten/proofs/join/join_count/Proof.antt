@@ -1,9 +1,9 @@
 -- Each best sum below the bound is the last entry of the join there, so the entries are counted one by one, from the last to the first.
 use native.Mathlib.Omega.{arith}
-use Rattle.joins.proofs.JoinSteps.{CountingJoin, count-start, count-more, count-less, count-none, count-end}
+use Rattle.unbeaten.proofs.JoinSteps.{CountingJoin, count-start, count-more, count-less, count-none, count-end}
 use borrow.Author.Needs.{needs}
-use Rattle.joins.proofs.join.join_count.Statement.{statement}
-use Rattle.joins.proofs.join.join_count.Tie as tie
+use Rattle.unbeaten.proofs.join.join_count.Statement.{statement}
+use Rattle.unbeaten.proofs.join.join_count.Tie as tie
 
 abbrev Inv-loop : tie.InvT-loop
 Inv-loop times energies more-times more-energies leasts₀ span₀ count₀ bound₀ leasts span count bound =

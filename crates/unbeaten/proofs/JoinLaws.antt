@@ -1,18 +1,17 @@
 -- Laws of joins: what a join keeps of the sums, and that it is the same either way round.
--- In this order: the order of the two lists; below every sum lies an entry; the best sum is the best entry; with energy as the one
--- limited figure it is the last entry within the limit.
+-- In this order: the order of the two lists; the best sum is the best entry; with energy as the one limited figure it is the last entry
+-- within the limit.
 use mathlib.Core.Path.{_∙_}
 use mathlib.Core.Logic.{_↔_}
 use mathlib.Core.List.{List, List·Memᴰ}
 use Prim.Native.Nat.{ℕ}
 use Rattle.paths.specs.Figures.{Figures, Lawful}
-use Rattle.paths.specs.Weights.{weights, energy, Within, Covered}
+use Rattle.paths.specs.Weights.{weights, energy, Within}
 use Rattle.paths.specs.TradeOff.{IsSum, UnbeatenSum, IsJoin}
 use Rattle.paths.specs.Answer.{BestSum, NoSum}
 use Rattle.paths.proofs.Figures.{number-lawful}
-use Rattle.paths.proofs.Weights.{weights-lawful, ⊑-notLater, notLater-antisym, notLater-trans}
-use Rattle.paths.proofs.Skyline.{listing-sums, skylineOf}
-use Rattle.paths.proofs.Answers.{BestEntry}
+use Rattle.paths.proofs.Weights.{weights-lawful, ⊑-notLater, notLater-antisym}
+use Rattle.paths.proofs.Answers.{BestEntry, entry-is-best-sum, none-within-join}
 use Rattle.paths.proofs.OneLimit.{LastWithin, join-ordered, last-is-best, best-is-last-entry}
 
 module _ {𝓛 : Figures} (lawful : Lawful 𝓛) where
@@ -42,27 +41,11 @@ module _ {𝓛 : Figures} (lawful : Lawful 𝓛) where
       }
 
   module _ {k l r : List Weight} (j : IsJoin 𝓛 k l r) where
-    -- ---- Below every sum lies an entry
-
-    -- the skyline of all sums covers each sum, and its members are unbeaten sums, so they stand in the join
-    pub sum-covered : {p : Weight} → IsSum 𝓛 k l p → Covered 𝓛 r p
-    sum-covered s =
-        let sums = listing-sums 𝓛 k l in
-        let z = skylineOf lawful (sums .list) in
-        let f = z .covers (sums .all s) in
-        record {
-          entry = f .entry;
-          member =
-              j .complete
-              (record { sum = sums .only (z .from (f .member)); unbeaten = λ q t b. z .unbeaten (f .member) (sums .all t) b });
-          has = f .has;
-        }
-
     -- ---- The best sum is the best entry
 
-    module _ {C : 𝓛 .Figure} where
+    module _ {limit : 𝓛 .Figure} where
       -- what beats the best sum is within the limit too, and not later
-      pub bestSum-unbeaten : {p : Weight} → BestSum 𝓛 k l C p → UnbeatenSum 𝓛 k l p
+      pub bestSum-unbeaten : {p : Weight} → BestSum 𝓛 k l limit p → UnbeatenSum 𝓛 k l p
       bestSum-unbeaten best =
           record {
             sum = best .sum;
@@ -74,8 +57,8 @@ module _ {𝓛 : Figures} (lawful : Lawful 𝓛) where
                 (best .least q s (lawful .⊑-trans (b .no-larger .0) (best .within))));
           }
 
-      -- The best sum within C is the best entry of the join within C
-      pub bestSum-is-entry : {p : Weight} → BestSum 𝓛 k l C p ↔ BestEntry 𝓛 r C p
+      -- The best sum within the limit is the best entry of the join within the limit
+      pub bestSum-is-entry : {p : Weight} → BestSum 𝓛 k l limit p ↔ BestEntry 𝓛 r limit p
       bestSum-is-entry = (
         λ best.
             record {
@@ -83,30 +66,22 @@ module _ {𝓛 : Figures} (lawful : Lawful 𝓛) where
               within = best .within;
               least = λ {q} m h. best .least q (j .real m .sum) h;
             },
-        λ b.
-            record {
-              sum = j .real (b .member) .sum;
-              within = b .within;
-              least =
-                  λ q s h.
-                  let c = sum-covered s in
-                  notLater-trans lawful (b .least (c .member) (lawful .⊑-trans (c .has .0) h)) (⊑-notLater lawful (c .has));
-            },
+        λ b. entry-is-best-sum lawful j b,
       )
 
-      -- No sum is within C exactly where no entry of the join is
-      pub noSum-none : NoSum 𝓛 k l C ↔ ((q : Weight) → List·Memᴰ q r → Within 𝓛 C q → ⊥)
+      -- No sum is within the limit exactly where no entry of the join is
+      pub noSum-none : NoSum 𝓛 k l limit ↔ ((q : Weight) → List·Memᴰ q r → Within 𝓛 limit q → ⊥)
       noSum-none = (
         λ nothing q m h. nothing q (j .real m .sum) h,
-        λ nothing p s h. let c = sum-covered s in nothing (c .entry) (c .member) (lawful .⊑-trans (c .has .0) h),
+        λ nothing. none-within-join lawful j nothing,
       )
 
 -- ---- Energy as the one limited figure
 
--- The best sum within C is the last entry of the join whose energy is at most C
+-- The best sum within the limit is the last entry of the join whose energy is at most the limit
 pub bestSum-is-last :
-    {k l r : List (weights energy .Figure)} {C : ℕ} {p : weights energy .Figure} → IsJoin energy k l r →
-    BestSum energy k l C p ↔ LastWithin r C p
+    {k l r : List (weights energy .Figure)} {limit : ℕ} {p : weights energy .Figure} → IsJoin energy k l r →
+    BestSum energy k l limit p ↔ LastWithin r limit p
 bestSum-is-last j =
     let entry = bestSum-is-entry number-lawful j in (
       λ best. best-is-last-entry (join-ordered j) (entry .0 best),

@@ -1,19 +1,18 @@
 -- Each turn notes the sum with one entry more of the second list, and what stands behind the span makes no difference to it.
-use Prim.Native.Nat.{_-_}
 use native.Mathlib.Omega.{arith}
 use Rattle.spans.proofs.TableLaws.{EntryNoted, entry-none, entry-all, entry-later, entry-more, entry-beyond}
-use Rattle.joins.specs.working.Noting.{sumsWith}
-use Rattle.joins.proofs.NotingLaws.{with-falls, time-fits, units-fit}
+use Rattle.unbeaten.specs.working.Noting.{sumsWith}
+use Rattle.unbeaten.proofs.NotingLaws.{with-falls, time-fits, energy-fits}
 use borrow.Author.Needs.{needs}
-use Rattle.joins.proofs.noting.note_entry.Statement.{statement}
-use Rattle.joins.proofs.noting.note_entry.Tie as tie
+use Rattle.unbeaten.proofs.noting.note_entry.Statement.{statement}
+use Rattle.unbeaten.proofs.noting.note_entry.Tie as tie
 
 abbrev Inv-loop : tie.InvT-loop
-Inv-loop time units more-times more-energies end first leasts₀ j₀ leasts j =
-    EntryNoted (sumsWith (time .0) (units .0) more-times more-energies) end (first .0) leasts₀ j leasts
+Inv-loop time energy more-times more-energies end first leasts₀ j₀ leasts j =
+    EntryNoted (sumsWith (time .0) (energy .0) more-times more-energies) end (first .0) leasts₀ j leasts
 
 abbrev μ-loop : tie.MeasureT-loop
-μ-loop time units more-times more-energies end first leasts₀ j₀ leasts j = j
+μ-loop time energy more-times more-energies end first leasts₀ j₀ leasts j = j
 
 loop-holds : tie.Need-loop-holds Inv-loop μ-loop
 loop-holds c = entry-none _ _ _ (c .before .before .pre .1 .1 .1)
@@ -46,7 +45,7 @@ returns c =
     let pre = start .pre in
     entry-beyond (turn .before .loop .inv) (turn .loop-test .taken) (summed .plus .ensures) (c .before .seconds-behind .ensures)
     (entry-later (turn .before .loop .inv) (turn .loop-test .taken) (summed .plus .ensures) (pre .1 .1 .0))
-    (with-falls (pre .0) (start .args .time .0) (start .args .units .0) (pre .1 .0 .2)) (c .if1 .taken)
+    (with-falls (pre .0) (start .args .time .0) (start .args .energy .0) (pre .1 .0 .2)) (c .if1 .taken)
 
 mul-t13-2 : tie.Need-mul-t13-2 Inv-loop μ-loop
 mul-t13-2 c = search needs
@@ -58,7 +57,7 @@ plus-requires-2 : tie.Need-plus-requires-2 Inv-loop μ-loop
 plus-requires-2 c κs =
     let turn = c .before .before .before .before .before .before in
     let pre = turn .before .before .before .before .pre in
-    units-fit (pre .0) (pre .1 .0 .1) (omega (arith, pre .1 .0 .2, turn .before .loop .inv .in-range, turn .loop-test .taken))
+    energy-fits (pre .0) (pre .1 .0 .1) (omega (arith, pre .1 .0 .2, turn .before .loop .inv .in-range, turn .loop-test .taken))
 
 lower-requires : tie.Need-lower-requires Inv-loop μ-loop
 lower-requires c κs = (c .before .before .before .before .before .before .before .before .loop .inv .so-far .long, c .before .before .before .if1 .left)

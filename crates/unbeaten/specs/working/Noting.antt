@@ -9,17 +9,17 @@ use Rattle.lists.specs.working.Sums.{sumAt}
 use Rattle.spans.specs.declared.Span.{Span}
 use Rattle.spans.specs.working.Noting.{spanSeconds, SumOf}
 use Rattle.spans.specs.working.Waiting.{Waiting, BestBelow}
-use Rattle.joins.specs.declared.noting.Below.{Below}
-use Rattle.joins.specs.declared.noting.Below.the-variants.{Found, Nothing}
-use Rattle.joins.specs.declared.noting.Next.{Next}
+use Rattle.unbeaten.specs.declared.noting.Below.{Below}
+use Rattle.unbeaten.specs.declared.noting.Below.the-variants.{Found, Nothing}
+use Rattle.unbeaten.specs.declared.noting.Next.{Next}
 
 -- The sums of one entry and the entries of a list
 abbrev pub sumsWith : ℕ → ℕ → List ℕ → List ℕ → ℕ → Weight
-sumsWith t e us fs j = pair (t + getD us j 0) (e + getD fs j 0)
+sumsWith t e moreTimes moreEnergies j = pair (t + getD moreTimes j 0) (e + getD moreEnergies j 0)
 
 -- p is a sum of two lists
 abbrev pub ListsSum : List ℕ → List ℕ → List ℕ → List ℕ → Weight → Type 0
-ListsSum ts es us fs = SumOf (sumAt ts es us fs) (length ts) (length us)
+ListsSum times energies moreTimes moreEnergies = SumOf (sumAt times energies moreTimes moreEnergies) (length times) (length moreTimes)
 
 -- p is the best of the set below the bound, and the span waits for what is below p
 pub record FoundBelow (Has : Weight → Type 0) (bound : ℕ) (p : Weight) (span : Span) (leasts : List ℕ) : Type 0 where
@@ -28,7 +28,7 @@ pub record FoundBelow (Has : Weight → Type 0) (bound : ℕ) (p : Weight) (span
 
 -- What is found below the bound, and the span behind it
 abbrev pub BelowIs : (Weight → Type 0) → ℕ → Span → List ℕ → Below → Type 0
-BelowIs Has bound span leasts (Found takes units) = FoundBelow Has bound (pair (takes .0) (units .0)) span leasts
+BelowIs Has bound span leasts (Found takes energy) = FoundBelow Has bound (pair (takes .0) (energy .0)) span leasts
 BelowIs Has bound span leasts Nothing = (p : Weight) → Has p → bound ≤ spent energy p
 
 pub record NextBelow (Has : Weight → Type 0) (bound : ℕ) (next : Next) (leasts : List ℕ) : Type 0 where

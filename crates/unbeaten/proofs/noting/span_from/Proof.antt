@@ -1,8 +1,8 @@
 -- No sum below the bound takes less than the first second; the sums of the span are noted, or it has none.
 use Rattle.spans.proofs.WaitingLaws.{waiting-none, waiting-noted}
 use borrow.Author.Needs.{needs}
-use Rattle.joins.proofs.noting.span_from.Statement.{statement}
-use Rattle.joins.proofs.noting.span_from.Tie as tie
+use Rattle.unbeaten.proofs.noting.span_from.Statement.{statement}
+use Rattle.unbeaten.proofs.noting.span_from.Tie as tie
 
 seconds-behind-requires : tie.Need-seconds-behind-requires
 seconds-behind-requires c κs = search needs

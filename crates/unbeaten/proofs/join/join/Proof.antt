@@ -3,9 +3,9 @@ use mathlib.Core.Path.{refl}
 use mathlib.Core.Logic.{inl, inr}
 use native.Mathlib.Omega.{arith}
 use borrow.Author.Needs.{needs}
-use Rattle.joins.proofs.JoinAnswers.{lists-formed, refused-form, refused-room, answered}
-use Rattle.joins.proofs.join.join.Statement.{statement}
-use Rattle.joins.proofs.join.join.Tie as tie
+use Rattle.unbeaten.proofs.JoinAnswers.{lists-formed, refused-form, refused-room, answered}
+use Rattle.unbeaten.proofs.join.join.Statement.{statement}
+use Rattle.unbeaten.proofs.join.join.Tie as tie
 
 join-number-requires : tie.Need-join-number-requires
 join-number-requires c κs = search needs

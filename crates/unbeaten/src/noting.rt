@@ -18,7 +18,8 @@ ghost use lib.ListN.{length};
 ghost use Rattle.lists.specs.working.Lists.{IsList};
 ghost use Rattle.spans.specs.working.Noting.{spanSeconds, EntrySum, PairWithin, NoneBefore, Lowered};
 ghost use Rattle.spans.specs.working.Waiting.{mostTime, Waiting};
-ghost use Rattle.joins.specs.working.Noting.{sumsWith, ListsSum, NextBelow};
+ghost use Rattle.joins.specs.Form.{mostNumber};
+ghost use Rattle.unbeaten.specs.working.Noting.{sumsWith, ListsSum, NextBelow};
 
 // Lists of fewer entries together have too few sums for a span to pay; those of more are all treated alike.
 const SHORT: usize = 64;
@@ -40,19 +41,19 @@ pub struct Next {
 // The sums of one entry and the first entries of the second list, from the quickest on. Those behind the span are slower still.
 fn note_entry(
     time: Seconds,
-    units: Energy,
+    energy: Energy,
     more_times: &[u32],
     more_energies: &[u32],
     end: usize,
     first: Seconds,
     leasts: &mut [u32; 2048],
 )
-    requires { ⌜ IsList 1073741823 (now «more_times») (now «more_energies») ⌝ }
-    requires { ⌜ (time .0 ≤ 1073741823) × (units .0 ≤ 1073741823) × (end ≤ length (now «more_times»)) ⌝ }
-    requires { ⌜ NoneBefore (EntrySum (sumsWith (time .0) (units .0) (now «more_times») (now «more_energies»)) 0 end) (first .0) ⌝ }
+    requires { ⌜ IsList mostNumber (now «more_times») (now «more_energies») ⌝ }
+    requires { ⌜ (time .0 ≤ mostNumber) × (energy .0 ≤ mostNumber) × (end ≤ length (now «more_times»)) ⌝ }
+    requires { ⌜ NoneBefore (EntrySum (sumsWith (time .0) (energy .0) (now «more_times») (now «more_energies»)) 0 end) (first .0) ⌝ }
     requires { ⌜ length (now leasts) ≡ spanSeconds ⌝ }
     ensures { λ _.
-        ⌜ Lowered (EntrySum (sumsWith (time .0) (units .0) (now («more_times» .entry)) (now («more_energies» .entry))) 0 end) (first .0)
+        ⌜ Lowered (EntrySum (sumsWith (time .0) (energy .0) (now («more_times» .entry)) (now («more_energies» .entry))) 0 end) (first .0)
         (now (leasts .entry))
         (now (leasts .exit)) ⌝ }
 {
@@ -63,7 +64,7 @@ fn note_entry(
         if second >= SECONDS {
             return;
         }
-        lower(leasts, second, units.plus(Energy(more_energies[last])));
+        lower(leasts, second, energy.plus(Energy(more_energies[last])));
         j = last;
     }
 }
@@ -78,8 +79,8 @@ fn note_sums(
     first: Seconds,
     leasts: &mut [u32; 2048],
 )
-    requires { ⌜ IsList 1073741823 (now times) (now energies) ⌝ }
-    requires { ⌜ IsList 1073741823 (now «more_times») (now «more_energies») ⌝ }
+    requires { ⌜ IsList mostNumber (now times) (now energies) ⌝ }
+    requires { ⌜ IsList mostNumber (now «more_times») (now «more_energies») ⌝ }
     requires { ⌜
         NoneBefore (PairWithin (ListsSum (now times) (now energies) (now «more_times») (now «more_energies»)) (limit .0)) (first .0)
         ⌝ }
@@ -99,12 +100,12 @@ fn note_sums(
     let mut i: usize = 0;
     while i < times.len() {
         let time = Seconds(times[i]);
-        let units = Energy(energies[i]);
-        j = fitting(more_energies, units, limit, j);
+        let energy = Energy(energies[i]);
+        j = fitting(more_energies, energy, limit, j);
         if j == 0 {
             return;
         }
-        note_entry(time, units, more_times, more_energies, j, first, leasts);
+        note_entry(time, energy, more_times, more_energies, j, first, leasts);
         i += 1;
     }
 }
@@ -134,8 +135,8 @@ fn span_from(
     first: Seconds,
     leasts: &mut [u32; 2048],
 ) -> Span
-    requires { ⌜ IsList 1073741823 (now times) (now energies) ⌝ }
-    requires { ⌜ IsList 1073741823 (now «more_times») (now «more_energies») ⌝ }
+    requires { ⌜ IsList mostNumber (now times) (now energies) ⌝ }
+    requires { ⌜ IsList mostNumber (now «more_times») (now «more_energies») ⌝ }
     requires { ⌜ 0 < bound .0 ⌝ }
     requires { ⌜
         NoneBefore (PairWithin (ListsSum (now times) (now energies) (now «more_times») (now «more_energies»)) (bound .0 - 1)) (first .0)
@@ -185,8 +186,8 @@ pub fn next_below(
     span: Span,
     leasts: &mut [u32; 2048],
 ) -> Next
-    requires { ⌜ IsList 1073741823 (now times) (now energies) ⌝ }
-    requires { ⌜ IsList 1073741823 (now «more_times») (now «more_energies») ⌝ }
+    requires { ⌜ IsList mostNumber (now times) (now energies) ⌝ }
+    requires { ⌜ IsList mostNumber (now «more_times») (now «more_energies») ⌝ }
     requires { ⌜ 0 < bound .0 ⌝ }
     requires { ⌜
         Waiting (ListsSum (now times) (now energies) (now «more_times») (now «more_energies»)) (bound .0) span (now leasts)
@@ -221,7 +222,7 @@ pub fn next_below(
     };
     let sum = sum_at(times, energies, more_times, more_energies, i, j);
     let time = sum.time;
-    let units = sum.units;
+    let energy = sum.energy;
     let after = span_from(
         times,
         energies,
@@ -233,7 +234,7 @@ pub fn next_below(
         leasts,
     );
     Next {
-        below: Below::Found(time, units),
+        below: Below::Found(time, energy),
         span: after,
     }
 }

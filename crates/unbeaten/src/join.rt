@@ -2,10 +2,11 @@
 // through twice, each time from the fast end: the best sum below a bound, then the best below that one's energy, and so on.
 // Where entries stand close, each sum is touched at most once, and each 2,048 seconds cost two walks of both lists; where they stand
 // further apart, each entry costs one walk.
-use crate::JoinAnswer;
-use crate::form::join_number;
 use crate::noting::Below;
 use crate::noting::next_below;
+use joins::JoinAnswer;
+use joins::form::join_number;
+use lists::ABOVE_ALL;
 use paths::energy::Energy;
 use spans::no_span;
 ghost use mathlib.Core.Path.{_≡_};
@@ -18,10 +19,8 @@ ghost use Rattle.refusals.specs.Lent.{filled};
 ghost use Rattle.lists.specs.Entries.{Weight, entries, times as timesOf, energies as energiesOf};
 ghost use Rattle.lists.specs.working.Lists.{IsList};
 ghost use Rattle.spans.specs.working.Noting.{spanSeconds};
+ghost use Rattle.joins.specs.Form.{mostNumber};
 ghost use Rattle.joins.specs.Answers.{Join, joinNumberOf, joinCountOf};
-
-// More than the energy of any sum.
-const ABOVE_ALL: u32 = 2147483647;
 
 // How many entries the join has.
 fn join_count(
@@ -31,8 +30,8 @@ fn join_count(
     more_energies: &[u32],
     leasts: &mut [u32; 2048],
 ) -> u32
-    requires { ⌜ IsList 1073741823 (now times) (now energies) ⌝ }
-    requires { ⌜ IsList 1073741823 (now «more_times») (now «more_energies») ⌝ }
+    requires { ⌜ IsList mostNumber (now times) (now energies) ⌝ }
+    requires { ⌜ IsList mostNumber (now «more_times») (now «more_energies») ⌝ }
     requires { ⌜ length (now leasts) ≡ spanSeconds ⌝ }
     ensures { λ r.
         ⌜
@@ -58,11 +57,11 @@ fn join_count(
             leasts,
         );
         let below = next.below;
-        let Below::Found(_, units) = below else {
+        let Below::Found(_, energy) = below else {
             return count;
         };
         count += 1;
-        bound = units.0;
+        bound = energy.0;
         let after = next.span;
         span = after;
     }
@@ -80,8 +79,8 @@ fn join_fill(
     out_energies: &mut [u32],
     leasts: &mut [u32; 2048],
 )
-    requires { ⌜ IsList 1073741823 (now times) (now energies) ⌝ }
-    requires { ⌜ IsList 1073741823 (now «more_times») (now «more_energies») ⌝ }
+    requires { ⌜ IsList mostNumber (now times) (now energies) ⌝ }
+    requires { ⌜ IsList mostNumber (now «more_times») (now «more_energies») ⌝ }
     requires { ⌜
         ((joined : List Weight) →
         IsJoin energy (entries (now times) (now energies)) (entries (now «more_times») (now «more_energies»)) joined →
@@ -121,13 +120,13 @@ fn join_fill(
             leasts,
         );
         let found = next.below;
-        let Below::Found(time, units) = found else {
+        let Below::Found(time, energy) = found else {
             return;
         };
         place -= 1;
         out_times[place] = time.0;
-        out_energies[place] = units.0;
-        below = units.0;
+        out_energies[place] = energy.0;
+        below = energy.0;
         let after = next.span;
         span = after;
     }

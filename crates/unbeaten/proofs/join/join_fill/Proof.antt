@@ -1,10 +1,10 @@
 -- As many entries of the join lie below the bound as places are left, and the best sum there is the last of them, which goes to the last
 -- of those places.
 use native.Mathlib.Omega.{arith}
-use Rattle.joins.proofs.JoinSteps.{FillingJoin, fill-start, fill-bound, fill-more, fill-never, fill-times, fill-energies}
+use Rattle.unbeaten.proofs.JoinSteps.{FillingJoin, fill-start, fill-bound, fill-more, fill-never, fill-times, fill-energies}
 use borrow.Author.Needs.{needs}
-use Rattle.joins.proofs.join.join_fill.Statement.{statement}
-use Rattle.joins.proofs.join.join_fill.Tie as tie
+use Rattle.unbeaten.proofs.join.join_fill.Statement.{statement}
+use Rattle.unbeaten.proofs.join.join_fill.Tie as tie
 
 abbrev Inv-loop : tie.InvT-loop
 Inv-loop times energies more-times more-energies count out-times₀ out-energies₀ leasts₀ span₀ place₀ below₀ out-times out-energies leasts span place below =
