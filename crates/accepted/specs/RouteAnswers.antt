@@ -1,7 +1,9 @@
 -- The number and the values of Route's answer, case by case, zeros beside a refusal (SCOPE 4.1).
+use mathlib.Core.List.{List}
 use Prim.Native.Nat.{ℕ}
 use Rattle.accepted.specs.declared.RouteAnswer.{RouteAnswer}
 use Rattle.accepted.specs.declared.RouteAnswer.the-variants as case
+use Rattle.accepted.specs.Check.{Checked, CheckRefused}
 
 abbrev pub routeNumberOf : RouteAnswer → ℕ
 routeNumberOf (case.Routed time energy count) = 0
@@ -34,3 +36,12 @@ routeCountOf case.OffMap = 0
 routeCountOf case.NotConnected = 0
 routeCountOf case.OverLimit = 0
 routeCountOf case.NoRoom = 0
+
+-- Which case an answer is (SCOPE 4.1): the check's refusal is `NotAccepted` and nothing else is
+abbrev pub RouteCase : List ℕ → List ℕ → RouteAnswer → Type 0
+RouteCase net labels (case.Routed time energy count) = Checked net labels 0
+RouteCase net labels (case.NotAccepted number) = CheckRefused net labels number
+RouteCase net labels case.OffMap = Checked net labels 0
+RouteCase net labels case.NotConnected = Checked net labels 0
+RouteCase net labels case.OverLimit = Checked net labels 0
+RouteCase net labels case.NoRoom = Checked net labels 0

@@ -4,11 +4,13 @@ use network::header::junctions_of;
 use routes::list::list_count;
 use routes::list::list_fill;
 ghost use mathlib.Core.Path.{_≡_};
+ghost use mathlib.Core.Bool.{false};
 ghost use Prim.Native.Nat.{_<_, min};
 ghost use Rattle.network.specs.NetworkFile.{junctionsOf};
 ghost use Rattle.query.specs.working.Prepared.{Prepared};
 ghost use Rattle.accepted.specs.List.{ListAnswered};
 ghost use Rattle.accepted.specs.ListAnswers.{listNumberOf, listCountOf};
+ghost use Rattle.accepted.specs.working.FromCheck.{listFromCheck};
 
 // "room is the shorter of the two".
 fn shorter(times: usize, energies: usize) -> usize
@@ -36,6 +38,7 @@ fn list_on_map(
     ensures { λ r.
         ⌜ ListAnswered (now (net .entry)) s t (now (times .entry)) (now (energies .entry))
         (listNumberOf r) (listCountOf r) (now (times .exit)) (now (energies .exit)) ⌝ }
+    ensures { λ r. ⌜ listFromCheck r ≡ false ⌝ }
 {
     let count = list_count(net, labels, depths, tables, s, t);
     if count == 0 {
@@ -63,6 +66,7 @@ pub fn write_list(
     ensures { λ r.
         ⌜ ListAnswered (now (net .entry)) s t (now (times .entry)) (now (energies .entry))
         (listNumberOf r) (listCountOf r) (now (times .exit)) (now (energies .exit)) ⌝ }
+    ensures { λ r. ⌜ listFromCheck r ≡ false ⌝ }
 {
     let junctions = junctions_of(net);
     if s >= junctions {

@@ -7,6 +7,7 @@ use query::Answer;
 use query::limited::answer;
 use routes::route::route;
 ghost use mathlib.Core.Path.{_≡_};
+ghost use mathlib.Core.Bool.{false};
 ghost use Prim.Native.Nat.{_<_};
 ghost use lib.ListN.{length};
 ghost use Rattle.paths.specs.Weights.{pair};
@@ -17,6 +18,7 @@ ghost use Rattle.query.specs.working.Prepared.{Prepared};
 ghost use Rattle.accepted.specs.Route.{RouteAnswered};
 ghost use Rattle.accepted.specs.RouteAnswers.{routeNumberOf, routeTimeOf, routeEnergyOf, routeCountOf};
 ghost use Rattle.accepted.specs.working.RoutePut.{RoutePut};
+ghost use Rattle.accepted.specs.working.FromCheck.{routeFromCheck};
 
 // The first route of an unbeaten pair, put into the first of the lent places if they are enough.
 fn put_route(
@@ -39,6 +41,7 @@ fn put_route(
     ensures { λ r.
         ⌜ RoutePut (now (net .entry)) s t (time .0) (energy .0) (now (junctions .entry))
         (routeNumberOf r) (routeTimeOf r) (routeEnergyOf r) (routeCountOf r) (now (junctions .exit)) ⌝ }
+    ensures { λ r. ⌜ routeFromCheck r ≡ false ⌝ }
 {
     let mut places: [u32; 1024] = [0; 1024];
     let count = route(
@@ -78,6 +81,7 @@ pub fn answer_route(
     ensures { λ r.
         ⌜ RouteAnswered (now (net .entry)) s t limit (now (junctions .entry))
         (routeNumberOf r) (routeTimeOf r) (routeEnergyOf r) (routeCountOf r) (now (junctions .exit)) ⌝ }
+    ensures { λ r. ⌜ routeFromCheck r ≡ false ⌝ }
 {
     let found = answer(net, labels, depths, tables, s, t, limit);
     match found {

@@ -16,11 +16,9 @@ ghost use Rattle.joins.specs.Answers.{Join, LimitedJoin, joinNumberOf, joinCoun
 ghost use Rattle.stored.specs.Stored.{listPlace};
 ghost use Rattle.files.specs.Shown.{Shown};
 ghost use Rattle.accepted.specs.Check.{Checked};
-ghost use Rattle.accepted.specs.RouteAnswers.{routeNumberOf, routeTimeOf, routeEnergyOf, routeCountOf};
-ghost use Rattle.accepted.specs.ListAnswers.{listNumberOf, listCountOf};
 ghost use Rattle.labels.specs.Batch.{BatchDone};
-ghost use Rattle.labels.specs.Route.{Routed};
-ghost use Rattle.labels.specs.List.{Listed};
+ghost use Rattle.labels.specs.Route.{RouteDone};
+ghost use Rattle.labels.specs.List.{ListDone};
 
 // Check: 0 if the network and the labels are accepted, else the number of the first test that fails (1 to 6, 11 to 18).
 pub fn check(net: &[u8], labels: &[u8]) -> u32
@@ -68,8 +66,7 @@ pub fn route(
     junctions: &mut [u32],
 ) -> RouteAnswer
     ensures { λ r.
-        ⌜ Routed (now (net .entry)) (now (labels .entry)) s t limit (now (junctions .entry))
-        (routeNumberOf r) (routeTimeOf r) (routeEnergyOf r) (routeCountOf r) (now (junctions .exit)) ⌝ }
+        ⌜ RouteDone (now (net .entry)) (now (labels .entry)) s t limit (now (junctions .entry)) r (now (junctions .exit)) ⌝ }
 {
     let mut depths: [u32; 1024] = [0; 1024];
     let mut tables: [u32; 13312] = [0; 13312];
@@ -102,8 +99,8 @@ pub fn list(
     energies: &mut [u32],
 ) -> ListAnswer
     ensures { λ r.
-        ⌜ Listed (now (net .entry)) (now (labels .entry)) s t (now (times .entry)) (now (energies .entry))
-        (listNumberOf r) (listCountOf r) (now (times .exit)) (now (energies .exit)) ⌝ }
+        ⌜ ListDone (now (net .entry)) (now (labels .entry)) s t (now (times .entry)) (now (energies .entry)) r
+        (now (times .exit)) (now (energies .exit)) ⌝ }
 {
     let mut depths: [u32; 1024] = [0; 1024];
     let mut tables: [u32; 13312] = [0; 13312];

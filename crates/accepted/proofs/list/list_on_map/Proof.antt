@@ -1,5 +1,6 @@
 -- The list is counted, then the room is tested, and only then the slices are filled: each way out is one law of `ListAnswers`.
 use borrow.Author.Needs.{needs}
+use mathlib.Core.Path.{refl}
 use native.Mathlib.Omega.{arith}
 use Rattle.accepted.proofs.ListAnswers.{list-apart, list-too-long, list-written}
 use Rattle.accepted.proofs.list.list_on_map.Statement.{statement}
@@ -39,7 +40,7 @@ returns-3 c =
     let room = written .before .before .before in
     let counted = room .before .before .before in
     let p = counted .before .before .before .before .before .pre in
-    list-written (p .0) (p .1 .0) (p .1 .1) (counted .list-count .ensures) (room .before .before .if1 .left) (room .before .shorter .ensures) (room .if2 .left) (written .list-fill .ensures)
+    (list-written (p .0) (p .1 .0) (p .1 .1) (counted .list-count .ensures) (room .before .before .if1 .left) (room .before .shorter .ensures) (room .if2 .left) (written .list-fill .ensures), refl)
 
 pub list-on-map-spec : {M : Type 1} → statement M
 list-on-map-spec =
