@@ -30,7 +30,7 @@ pub ready-for-queries : {net labels depths tables : List ℕ} {number : ℕ} →
 ready-for-queries {net} {labels} accepting none =
     let a = zero-accepts (accepting .checked) none in
     record {
-      beside = files-fit labels (network-fits versionOne net (a .network-passes)) (a .form-passes);
+      beside = files-fit versionOne labels (network-fits versionOne net (a .network-passes)) (a .form-passes);
       every-list-right = a .every-list-right;
       depths-filled = accepting .filled none .depths-filled;
       starts-filled = accepting .filled none .starts-filled;

@@ -28,6 +28,11 @@ use Rattle.accepted.specs.working.Accepting.{Accepting}
 pub serves-one : (net : List ℕ) {number : ℕ} {serves : Served} → serves ≡ versionOne → number ≡ netNumber serves net → number ≡ netNumber versionOne net
 serves-one net one is = rw one at is
 
+pub labels-serve-one :
+    {net labels depths tables : List ℕ} {r : ℕ} {serves : Served} → serves ≡ versionOne → LabelsNumbered serves net labels depths tables r →
+    LabelsNumbered versionOne net labels depths tables r
+labels-serve-one one told = rw one at told
+
 -- a network that passed has no number
 pub network-passes : {net : List ℕ} {number : ℕ} → number ≡ netNumber versionOne net → number ≡ 0 → NetworkFits net
 network-passes {net} is none = network-fits versionOne net (sym is ∙ none)
@@ -54,7 +59,7 @@ module _ {net labels depths tables : List ℕ} where
       record { checked = network-refused (λ z. some (is ∙ z)) is; filled = λ z. absurd (some z); depths-length = d; tables-length = t }
 
   pub labels-refuse :
-      {r : ℕ} (number : ℕ) → number ≡ netNumber versionOne net → number ≡ 0 → LabelsNumbered net labels depths tables r → (r ≡ 0 → ⊥) →
+      {r : ℕ} (number : ℕ) → number ≡ netNumber versionOne net → number ≡ 0 → LabelsNumbered versionOne net labels depths tables r → (r ≡ 0 → ⊥) →
       Accepting net labels r depths tables
   labels-refuse number is none form some =
       record {
@@ -69,7 +74,7 @@ module _
     (number r : ℕ)
     (is : number ≡ netNumber versionOne net)
     (none : number ≡ 0)
-    (form : LabelsNumbered net labels depths started r)
+    (form : LabelsNumbered versionOne net labels depths started r)
     (passes : r ≡ 0)
     (filled : Tables net labels depths tables)
   where

@@ -11,9 +11,9 @@ module _ (net labels : List ℕ) (number : ℕ) where
   -- The network's number, then the labels', then 18 exactly if some list is not right
   pub data Checked : Type 0 where
     network-refused : (netNumber versionOne net ≡ 0 → ⊥) → number ≡ netNumber versionOne net → Checked
-    labels-refused : netNumber versionOne net ≡ 0 → (labelsNumber net labels ≡ 0 → ⊥) → number ≡ labelsNumber net labels → Checked
-    list-wrong : netNumber versionOne net ≡ 0 → labelsNumber net labels ≡ 0 → (EveryListRight net labels → ⊥) → number ≡ 18 → Checked
-    accepted : netNumber versionOne net ≡ 0 → labelsNumber net labels ≡ 0 → EveryListRight net labels → number ≡ 0 → Checked
+    labels-refused : netNumber versionOne net ≡ 0 → (labelsNumber versionOne net labels ≡ 0 → ⊥) → number ≡ labelsNumber versionOne net labels → Checked
+    list-wrong : netNumber versionOne net ≡ 0 → labelsNumber versionOne net labels ≡ 0 → (EveryListRight net labels → ⊥) → number ≡ 18 → Checked
+    accepted : netNumber versionOne net ≡ 0 → labelsNumber versionOne net labels ≡ 0 → EveryListRight net labels → number ≡ 0 → Checked
 
   -- The check refuses, by a number of 1 to 18 (SCOPE 4.2)
   pub record CheckRefused : Type 0 where

@@ -34,7 +34,7 @@ pub fn accept(net: &[u8], labels: &[u8], depths: &mut [u32; 1024], tables: &mut 
     if network != 0 {
         return network;
     }
-    let form = labels_number(net, labels, depths, tables);
+    let form = labels_number(net, labels, version_one(), depths, tables);
     if form != 0 {
         return form;
     }

@@ -68,7 +68,7 @@ right-complete every =
     }
 
 pub accepted-complete :
-    {net labels : List ℕ} {number : ℕ} → netNumber versionOne net ≡ 0 → labelsNumber net labels ≡ 0 → Checked net labels number → (number ≡ 0) ↔ Complete net labels
+    {net labels : List ℕ} {number : ℕ} → netNumber versionOne net ≡ 0 → labelsNumber versionOne net labels ≡ 0 → Checked net labels number → (number ≡ 0) ↔ Complete net labels
 accepted-complete {net} {labels} network form check = (
   (λ z. right-complete (zero-accepts check z .every-list-right)),
   λ complete.
@@ -76,7 +76,7 @@ accepted-complete {net} {labels} network form check = (
       (accepted-zero (record {
         network-passes = network;
         form-passes = form;
-        every-list-right = complete-right (files-fit labels (network-fits versionOne net network) form) complete;
+        every-list-right = complete-right (files-fit versionOne labels (network-fits versionOne net network) form) complete;
       })),
 )
 

@@ -99,7 +99,7 @@ pub record BestTotal (net labels : List ℕ) (H : ℕ → Type 0) (s t limit tim
 
 pub record Demand2 (net labels : List ℕ) : Type 0 where
   -- Labels of the right form are accepted exactly if they are right
-  pub accepted-exactly : netNumber versionOne net ≡ 0 → labelsNumber net labels ≡ 0 → (number : ℕ) → Checked net labels number → (number ≡ 0) ↔ Complete net labels
+  pub accepted-exactly : netNumber versionOne net ≡ 0 → labelsNumber versionOne net labels ≡ 0 → (number : ℕ) → Checked net labels number → (number ≡ 0) ↔ Complete net labels
   -- On accepted labels any three numbers are answered, and in one way
   pub some-answer : Checked net labels 0 → (s t limit : ℕ) → (number : ℕ) × (time : ℕ) × (energy : ℕ) × Gives net labels s t limit number time energy
   pub one-answer :

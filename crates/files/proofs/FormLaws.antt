@@ -10,9 +10,8 @@ use lib.ListN.{length}
 use borrow.Author.Tests.{leb-true, eqb-true}
 use Rattle.refusals.specs.Order.{every}
 use Rattle.refusals.proofs.Order.{unless-passed, decided-none, and-both}
-use Rattle.bytes.specs.Bytes.{marked}
-use Rattle.network.specs.Versions.{labelsServed}
-use Rattle.network.specs.NetworkFile.{versionOf, junctionsOf, roadsOf, identityOf}
+use Rattle.network.specs.declared.versions.Served.{Served}
+use Rattle.network.specs.NetworkFile.{junctionsOf, roadsOf, identityOf}
 use Rattle.network.specs.working.Fits.{NetworkFits}
 use Rattle.forest.specs.LabelFile.{entriesOf, listsFrom}
 use Rattle.forest.specs.Forest.{parentsPass, roadJoins}
@@ -27,17 +26,17 @@ use Rattle.stored.proofs.Lists.{lists-fit}
 -- ---- The parts
 
 -- Every part gives 0, and 14 and 16 are passed
-pub record PartsPass (fits joins : Bool) (s : List ℕ) : Type 0 where
-  pub header : headerForm s ≡ 0
+pub record PartsPass (serves : Served) (fits joins : Bool) (s : List ℕ) : Type 0 where
+  pub header : headerForm serves s ≡ 0
   pub fits-passed : fits ≡ true
   pub parents : parentsForm s ≡ 0
   pub joins-passed : joins ≡ true
   pub lists : listsForm s ≡ 0
 
-pub parts-pass : (fits joins : Bool) (s : List ℕ) → labelForm fits joins s ≡ 0 → PartsPass fits joins s
+pub parts-pass : (serves : Served) (fits joins : Bool) (s : List ℕ) → labelForm serves fits joins s ≡ 0 → PartsPass serves fits joins s
 unfolding labelForm
-parts-pass fits joins s e =
-    let header = decided-none (headerForm s) _ e in
+parts-pass serves fits joins s e =
+    let header = decided-none (headerForm serves s) _ e in
     let fourteen = unless-passed {test = fits} (λ z. omega arith) (header .1) in
     let parents = decided-none (parentsForm s) _ (fourteen .1) in
     let sixteen = unless-passed {test = joins} (λ z. omega arith) (parents .1) in
@@ -55,21 +54,15 @@ parts-pass fits joins s e =
 pub record HeaderFits (s : List ℕ) : Type 0 where
   pub long : 16 ≤ length s
   pub few-bytes : length s ≤ mostBytes
-  pub has-mark : marked 84 76 66 s ≡ true
-  pub served : labelsServed (versionOf s) ≡ true
 
-pub header-fits : (s : List ℕ) → headerForm s ≡ 0 → HeaderFits s
+pub header-fits : (serves : Served) (s : List ℕ) → headerForm serves s ≡ 0 → HeaderFits s
 unfolding headerForm
-header-fits s e =
+header-fits serves s e =
     let size = unless-passed {test = leb 16 (length s) && leb (length s) mostBytes} (λ z. omega arith) e in
-    let mark = unless-passed {test = marked 84 76 66 s} (λ z. omega arith) (size .1) in
-    let version = unless-passed {test = labelsServed (versionOf s)} {next = 0} (λ z. omega arith) (mark .1) in
     let both = and-both (leb 16 (length s)) (leb (length s) mostBytes) (size .0) in
     record {
       long = leb-true _ _ (both .0);
       few-bytes = leb-true _ _ (both .1);
-      has-mark = mark .0;
-      served = version .0;
     }
 
 -- ---- The parents
@@ -103,11 +96,11 @@ lists-form-fit s e =
     }
 
 -- what all parts say together
-pub parts-formed : {fits joins : Bool} {s : List ℕ} → PartsPass fits joins s → 1 ≤ junctionsOf s → junctionsOf s ≤ 1024 → Formed s
-parts-formed {s = s} p some few =
+pub parts-formed : {serves : Served} {fits joins : Bool} {s : List ℕ} → PartsPass serves fits joins s → 1 ≤ junctionsOf s → junctionsOf s ≤ 1024 → Formed s
+parts-formed {serves} {s = s} p some few =
     let lists = lists-form-fit s (p .lists) in
     record {
-      few-bytes = header-fits s (p .header) .few-bytes;
+      few-bytes = header-fits serves s (p .header) .few-bytes;
       some-junction = some;
       parents = parents-form-fit few (p .parents);
       lists = lists .lists;
@@ -123,10 +116,10 @@ junctions-fit-few s e =
     let both = and-both (leb 1 (junctionsOf s)) (leb (junctionsOf s) 1024) e in (leb-true _ _ (both .0), leb-true _ _ (both .1))
 
 -- labels that pass alone are formed
-pub alone-formed : (s : List ℕ) → labelsNumberAlone s ≡ 0 → Formed s
+pub alone-formed : (serves : Served) (s : List ℕ) → labelsNumberAlone serves s ≡ 0 → Formed s
 unfolding labelsNumberAlone
-alone-formed s e =
-    let parts = parts-pass (junctionsFit s) true s e in
+alone-formed serves s e =
+    let parts = parts-pass serves (junctionsFit s) true s e in
     let few = junctions-fit-few s (parts .fits-passed) in
     parts-formed parts (few .0) (few .1)
 
@@ -139,10 +132,10 @@ same-network-size net s e =
     let both = and-both (eqb (junctionsOf s) (junctionsOf net)) (eqb (identityOf s) (identityOf net)) e in sym (eqb-true _ _ (both .0))
 
 -- labels that pass beside a network stand beside it
-pub files-fit : {net : List ℕ} (s : List ℕ) → NetworkFits net → labelsNumber net s ≡ 0 → FilesFit net s
+pub files-fit : (serves : Served) {net : List ℕ} (s : List ℕ) → NetworkFits net → labelsNumber serves net s ≡ 0 → FilesFit net s
 unfolding labelsNumber
-files-fit {net} s network e =
-    let parts = parts-pass (sameNetwork net s) (every (roadJoins net s) (roadsOf net)) s e in
+files-fit serves {net} s network e =
+    let parts = parts-pass serves (sameNetwork net s) (every (roadJoins net s) (roadsOf net)) s e in
     let same = same-network-size net s (parts .fits-passed) in
     record {
       network = network;

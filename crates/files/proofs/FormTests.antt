@@ -12,7 +12,8 @@ use Rattle.tables.specs.working.Layout.{tablePlaces}
 use Rattle.refusals.specs.Order.{unless, decided, every}
 use Rattle.refusals.proofs.Order.{decided-more}
 use Rattle.bytes.specs.Bytes.{marked}
-use Rattle.network.specs.Versions.{labelsServed}
+use Rattle.network.specs.declared.versions.Served.{Served}
+use Rattle.network.specs.Versions.{served}
 use Rattle.bytes.specs.working.Reads.{Read16}
 use Rattle.network.specs.NetworkFile.{versionOf, junctionsOf, roadsOf, identityOf}
 use Rattle.network.specs.working.Fits.{NetworkFits}
@@ -35,45 +36,45 @@ use Rattle.files.proofs.FormLaws.{
 
 -- ---- The header
 
-module _ (s : List ℕ) where
+module _ (serves : Served) (s : List ℕ) where
   -- 11, under 16 bytes
-  pub header-short : length s < 16 → 11 ≡ headerForm s
+  pub header-short : length s < 16 → 11 ≡ headerForm serves s
   unfolding headerForm
   header-short h = rw (lt-leb 16 (length s) h)
 
   module _ (long : 16 ≤ length s) where
     -- 11, over the most
-    pub header-huge : mostBytes < length s → 11 ≡ headerForm s
+    pub header-huge : mostBytes < length s → 11 ≡ headerForm serves s
     unfolding headerForm
     header-huge h = rw (le-leb 16 (length s) long, lt-leb (length s) mostBytes h)
 
     module _ (few : length s ≤ mostBytes) {mark : Bool} (mark-is : mark ≡ marked 84 76 66 s) where
       -- 12
-      pub header-unmarked : not mark ≡ true → 12 ≡ headerForm s
+      pub header-unmarked : not mark ≡ true → 12 ≡ headerForm serves s
       unfolding headerForm
       header-unmarked fails = rw (le-leb 16 (length s) long, le-leb (length s) mostBytes few, ← mark-is, not-true mark fails)
 
-      module _ (has-mark : not mark ≡ false) {version : ℕ} {served : Bool} (version-is : Read16 (versionOf s) version) (served-is : served ≡ labelsServed version) where
+      module _ (has-mark : not mark ≡ false) {version : ℕ} {known : Bool} (version-is : Read16 (versionOf s) version) (known-is : known ≡ served serves version) where
         -- what is left after 12
-        after-mark : headerForm s ≡ unless served 13 0
+        after-mark : headerForm serves s ≡ unless known 13 0
         unfolding headerForm
-        after-mark = rw (le-leb 16 (length s) long, le-leb (length s) mostBytes few, ← mark-is, not-false mark has-mark, ← version-is .is, ← served-is)
+        after-mark = rw (le-leb 16 (length s) long, le-leb (length s) mostBytes few, ← mark-is, not-false mark has-mark, ← version-is .is, ← known-is)
 
         -- 13
-        pub header-unserved : not served ≡ true → 13 ≡ headerForm s
-        header-unserved fails = rw (after-mark, not-true served fails)
+        pub header-unserved : not known ≡ true → 13 ≡ headerForm serves s
+        header-unserved fails = rw (after-mark, not-true known fails)
 
         -- no fault
-        pub header-passes : not served ≡ false → 0 ≡ headerForm s
-        header-passes holds = rw (after-mark, not-false served holds)
+        pub header-passes : not known ≡ false → 0 ≡ headerForm serves s
+        header-passes holds = rw (after-mark, not-false known holds)
 
 -- a header that passed can be read, and says that the file is not too long
-module _ (s : List ℕ) {header : ℕ} (header-is : header ≡ headerForm s) (passes : header ≡ 0) where
+module _ (serves : Served) (s : List ℕ) {header : ℕ} (header-is : header ≡ headerForm serves s) (passes : header ≡ 0) where
   pub header-long : 16 ≤ length s
-  header-long = header-fits s (sym header-is ∙ passes) .long
+  header-long = header-fits serves s (sym header-is ∙ passes) .long
 
   pub header-few : length s ≤ mostBytes
-  header-few = header-fits s (sym header-is ∙ passes) .few-bytes
+  header-few = header-fits serves s (sym header-is ∙ passes) .few-bytes
 
 -- ---- 14
 
@@ -195,29 +196,29 @@ refused is fails depth-places start-places =
       table-places = start-places;
     }
 
-module _ (s : List ℕ) (fits joins : Bool) {header : ℕ} (header-is : header ≡ headerForm s) where
+module _ (serves : Served) (s : List ℕ) (fits joins : Bool) {header : ℕ} (header-is : header ≡ headerForm serves s) where
   -- the header refuses
   pub read-header :
       {depths starts : List ℕ} → (header ≡ 0 → ⊥) → length depths ≡ 1024 → length starts ≡ tablePlaces →
-      FormRead s depths starts (labelForm fits joins s) header
+      FormRead s depths starts (labelForm serves fits joins s) header
   unfolding labelForm
   read-header fails = refused (rw (← header-is) (sym (decided-more _ fails))) fails
 
   module _ (header-passes : header ≡ 0) {fit : Bool} (fit-is : fit ≡ fits) where
     -- what is left after the header
-    after-header : labelForm fits joins s ≡ unless fit 14 (decided (parentsForm s) (unless joins 16 (listsForm s)))
+    after-header : labelForm serves fits joins s ≡ unless fit 14 (decided (parentsForm s) (unless joins 16 (listsForm s)))
     unfolding labelForm
     after-header = rw (← header-is, header-passes, ← fit-is)
 
     -- 14
     pub read-misfit :
         {depths starts : List ℕ} → not fit ≡ true → length depths ≡ 1024 → length starts ≡ tablePlaces →
-        FormRead s depths starts (labelForm fits joins s) 14
+        FormRead s depths starts (labelForm serves fits joins s) 14
     read-misfit fails = refused (rw (after-header, not-true fit fails)) (λ z. omega arith)
 
     module _ (holds : not fit ≡ false) {depths : List ℕ} {parents : ℕ} (numbered : ParentsNumbered s depths parents) where
       -- the parents refuse
-      pub read-parents : {starts : List ℕ} → (parents ≡ 0 → ⊥) → length starts ≡ tablePlaces → FormRead s depths starts (labelForm fits joins s) parents
+      pub read-parents : {starts : List ℕ} → (parents ≡ 0 → ⊥) → length starts ≡ tablePlaces → FormRead s depths starts (labelForm serves fits joins s) parents
       read-parents fails =
           refused
           (rw (after-header, not-false fit holds, ← numbered .number) (sym (decided-more _ fails)))
@@ -226,16 +227,16 @@ module _ (s : List ℕ) (fits joins : Bool) {header : ℕ} (header-is : header �
 
       module _ (parents-pass : parents ≡ 0) {join : Bool} (join-is : join ≡ joins) where
         -- what is left after the parents
-        after-parents : labelForm fits joins s ≡ unless join 16 (listsForm s)
+        after-parents : labelForm serves fits joins s ≡ unless join 16 (listsForm s)
         after-parents = rw (after-header, not-false fit holds, ← numbered .number, parents-pass, ← join-is)
 
         -- 16
-        pub read-unjoined : {starts : List ℕ} → not join ≡ true → length starts ≡ tablePlaces → FormRead s depths starts (labelForm fits joins s) 16
+        pub read-unjoined : {starts : List ℕ} → not join ≡ true → length starts ≡ tablePlaces → FormRead s depths starts (labelForm serves fits joins s) 16
         read-unjoined fails = refused (rw (after-parents, not-true join fails)) (λ z. omega arith) (numbered .places)
 
         -- the lists decide
         pub read-lists :
-            {starts : List ℕ} {r : ℕ} → not join ≡ false → ListsNumbered s starts r → FormRead s depths starts (labelForm fits joins s) r
+            {starts : List ℕ} {r : ℕ} → not join ≡ false → ListsNumbered s starts r → FormRead s depths starts (labelForm serves fits joins s) r
         read-lists joined lists =
             record {
               number = rw (after-parents, not-false join joined) (lists .number);
@@ -252,9 +253,11 @@ pub alone-few : (s : List ℕ) {fit : Bool} → fit ≡ junctionsFit s → not f
 alone-few s {fit} fit-is holds = junctions-fit-few s (sym fit-is ∙ not-false fit holds) .1
 
 -- what is read of a file's form alone says whether it is formed
-pub labels-numbered-alone : {s depths starts : List ℕ} {r : ℕ} → FormRead s depths starts (labelForm (junctionsFit s) true s) r → LabelsNumberedAlone s depths starts r
+pub labels-numbered-alone :
+    {serves : Served} {s depths starts : List ℕ} {r : ℕ} → FormRead s depths starts (labelForm serves (junctionsFit s) true s) r →
+    LabelsNumberedAlone serves s depths starts r
 unfolding labelsNumberAlone
-labels-numbered-alone {s} read = record { read = read; formed = λ z. alone-formed s (sym (read .number) ∙ z) }
+labels-numbered-alone {serves} {s} read = record { read = read; formed = λ z. alone-formed serves s (sym (read .number) ∙ z) }
 
 -- ---- Labels beside a network
 
@@ -268,8 +271,8 @@ module _ {net : List ℕ} (s : List ℕ) (network : NetworkFits net) where
 
   -- what is read of a file's form beside a network says whether they stand together
   pub labels-numbered :
-      {depths starts : List ℕ} {r : ℕ} →
-      FormRead s depths starts (labelForm (sameNetwork net s) (every (roadJoins net s) (roadsOf net)) s) r →
-      LabelsNumbered net s depths starts r
+      {serves : Served} {depths starts : List ℕ} {r : ℕ} →
+      FormRead s depths starts (labelForm serves (sameNetwork net s) (every (roadJoins net s) (roadsOf net)) s) r →
+      LabelsNumbered serves net s depths starts r
   unfolding labelsNumber
-  labels-numbered read = record { read = read; fit = λ z. files-fit s network (sym (read .number) ∙ z) }
+  labels-numbered {serves} read = record { read = read; fit = λ z. files-fit serves s network (sym (read .number) ∙ z) }

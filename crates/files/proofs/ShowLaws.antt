@@ -8,6 +8,8 @@ use Prim.Native.Nat.{ℕ, _+_, _-_, _≤_, _<_}
 use native.Mathlib.Omega.{arith}
 use lib.ListN.{length, take, drop}
 use borrow.Author.Tests.{not-true, not-false}
+use Rattle.network.specs.declared.versions.Served.{Served}
+use Rattle.network.specs.Versions.{versionOne}
 use Rattle.network.specs.NetworkFile.{junctionsOf}
 use Rattle.forest.specs.LabelFile.{listEnd}
 use Rattle.forest.specs.Forest.{depthOf, isAncestor}
@@ -17,6 +19,7 @@ use Rattle.forest.specs.working.Fits.{ParentsFit}
 use Rattle.stored.specs.working.Formed.{Formed}
 use Rattle.stored.specs.working.Scanned.{FoundList}
 use Rattle.files.specs.Shown.{Shows, Shown, nothing, bytes}
+use Rattle.files.specs.working.FormRead.{LabelsNumberedAlone}
 use Rattle.files.specs.working.Span.{AboveTested, Spans, none, list, SpanFound}
 use Rattle.forest.proofs.Forest.{above-shallower, is-ancestor-sound, is-ancestor-complete}
 use Rattle.stored.proofs.Places.{list-takes, found-fits}
@@ -49,9 +52,16 @@ module _ {s : List ℕ} (fit : ParentsFit s) where
 pub span-none : {s : List ℕ} {v u : ℕ} → (Shows s v u → ⊥) → SpanFound s v u 0 0
 span-none h = record { spans = none h refl refl; rises = omega arith; inside = omega arith }
 
+-- what is shown is of version 1
+pub alone-one :
+    {serves : Served} {s depths tables : List ℕ} {r : ℕ} → serves ≡ versionOne → LabelsNumberedAlone serves s depths tables r →
+    LabelsNumberedAlone versionOne s depths tables r
+alone-one one told = rw one at told
+
 -- labels that are refused show nothing
-pub span-refused : {s : List ℕ} {v u r : ℕ} → r ≡ labelsNumberAlone s → (r ≡ 0 → ⊥) → SpanFound s v u 0 0
-span-refused is fails = span-none (λ h. fails (is ∙ h .formed))
+pub span-refused :
+    {s depths tables : List ℕ} {v u r : ℕ} → LabelsNumberedAlone versionOne s depths tables r → (r ≡ 0 → ⊥) → SpanFound s v u 0 0
+span-refused told fails = span-none (λ h. fails (told .read .number ∙ h .formed))
 
 module _ {s : List ℕ} (v u : ℕ) {n : ℕ} (n-is : n ≡ junctionsOf s) where
   -- nor does a v or a u that is no junction
@@ -71,7 +81,7 @@ found-stands {s} {at = at} formed found = omega (arith, list-takes s at, found-f
 
 -- and is shown from its count through its last entry
 pub span-list :
-    {s : List ℕ} {v u n at end : ℕ} {r : Bool} → labelsNumberAlone s ≡ 0 → Formed s → n ≡ junctionsOf s → v < n → u < n →
+    {s : List ℕ} {v u n at end : ℕ} {r : Bool} → labelsNumberAlone versionOne s ≡ 0 → Formed s → n ≡ junctionsOf s → v < n → u < n →
     AboveTested s u v r → not r ≡ false → FoundList s v u at → end ≡ listEnd s at → SpanFound s v u at end
 span-list {s} {v} {u} {n} {at} {end} {r} passes formed n-is v-on u-on tested holds found is =
     record {

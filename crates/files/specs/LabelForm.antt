@@ -6,7 +6,8 @@ use lib.Dec.{leb, eqb}
 use lib.ListN.{length}
 use Rattle.refusals.specs.Order.{unless, decided, every}
 use Rattle.bytes.specs.Bytes.{marked}
-use Rattle.network.specs.Versions.{labelsServed}
+use Rattle.network.specs.declared.versions.Served.{Served}
+use Rattle.network.specs.Versions.{served}
 use Rattle.network.specs.NetworkFile.{versionOf, junctionsOf, roadsOf, identityOf}
 use Rattle.forest.specs.LabelFile.{entriesOf, listsFrom}
 use Rattle.forest.specs.Forest.{parentsPass, roadJoins}
@@ -16,11 +17,11 @@ use Rattle.stored.specs.ListForm.{mostBytes, listsNumber}
 -- ---- The parts, between which 14 and 16 stand
 
 -- The header's tests: 11, 12, 13
-unfoldable pub headerForm : List ℕ → ℕ
-headerForm labels =
+unfoldable pub headerForm : Served → List ℕ → ℕ
+headerForm serves labels =
     unless (leb 16 (length labels) && leb (length labels) mostBytes) 11
     (unless (marked 84 76 66 labels) 12
-    (unless (labelsServed (versionOf labels)) 13
+    (unless (served serves (versionOf labels)) 13
     0))
 
 -- The parents' tests: 11 if they are cut off, 15
@@ -40,11 +41,10 @@ listsForm labels =
 
 -- ---- The whole
 
--- The labels' number (SCOPE 4.3). What 14 and 16 ask
--- depends on whether there is a network.
-unfoldable pub labelForm : Bool → Bool → List ℕ → ℕ
-labelForm fits joins labels =
-    decided (headerForm labels)
+-- The labels' number (SCOPE 4.3), for the versions that are served. What 14 and 16 ask depends on whether there is a network.
+unfoldable pub labelForm : Served → Bool → Bool → List ℕ → ℕ
+labelForm serves fits joins labels =
+    decided (headerForm serves labels)
     (unless fits 14
     (decided (parentsForm labels)
     (unless joins 16
@@ -55,12 +55,12 @@ unfoldable pub sameNetwork : List ℕ → List ℕ → Bool
 sameNetwork net labels = eqb (junctionsOf labels) (junctionsOf net) && eqb (identityOf labels) (identityOf net)
 
 -- The number of labels beside a network that passed
-unfoldable pub labelsNumber : List ℕ → List ℕ → ℕ
-labelsNumber net labels = labelForm (sameNetwork net labels) (every (roadJoins net labels) (roadsOf net)) labels
+unfoldable pub labelsNumber : Served → List ℕ → List ℕ → ℕ
+labelsNumber serves net labels = labelForm serves (sameNetwork net labels) (every (roadJoins net labels) (roadsOf net)) labels
 
 -- Labels without a network: 14 asks for their own n
 abbrev pub junctionsFit : List ℕ → Bool
 junctionsFit labels = leb 1 (junctionsOf labels) && leb (junctionsOf labels) 1024
 
-unfoldable pub labelsNumberAlone : List ℕ → ℕ
-labelsNumberAlone labels = labelForm (junctionsFit labels) true labels
+unfoldable pub labelsNumberAlone : Served → List ℕ → ℕ
+labelsNumberAlone serves labels = labelForm serves (junctionsFit labels) true labels

@@ -4,6 +4,7 @@ use mathlib.Core.List.{List, []}
 use Prim.Native.Nat.{ℕ, _-_, _<_}
 use lib.ListN.{take, drop}
 use Rattle.paths.specs.Forest.{Above}
+use Rattle.network.specs.Versions.{versionOne}
 use Rattle.network.specs.NetworkFile.{junctionsOf}
 use Rattle.forest.specs.LabelFile.{parentsOf, listEnd}
 use Rattle.stored.specs.Stored.{listPlace}
@@ -11,7 +12,7 @@ use Rattle.files.specs.LabelForm.{labelsNumberAlone}
 
 -- What must hold for a list to be handed out
 pub record Shows (labels : List ℕ) (v u : ℕ) : Type 0 where
-  pub formed : labelsNumberAlone labels ≡ 0
+  pub formed : labelsNumberAlone versionOne labels ≡ 0
   pub junction : v < junctionsOf labels
   pub ancestor-junction : u < junctionsOf labels
   pub proper-ancestor : Above (parentsOf labels) u v

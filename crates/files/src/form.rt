@@ -7,12 +7,12 @@ use forest::parents::roads_join;
 use network::header::identity_of;
 use network::header::junctions_of;
 use network::header::version_of;
+use network::versions::Served;
 use stored::stored::scan_lists;
 ghost use mathlib.Core.Path.{_≡_};
 ghost use Prim.Native.Nat.{_≤_};
 ghost use lib.ListN.{length};
 ghost use Rattle.tables.specs.working.Layout.{tablePlaces};
-ghost use Rattle.network.specs.Versions.{labelsServed};
 ghost use Rattle.network.specs.NetworkFile.{junctionsOf};
 ghost use Rattle.network.specs.working.Fits.{NetworkFits};
 ghost use Rattle.stored.specs.ListForm.{mostBytes};
@@ -22,16 +22,9 @@ ghost use Rattle.files.specs.working.FormRead.{ParentsNumbered, ListsNum
 
 const MOST_BYTES: usize = 4194304;
 
-// Whether a label file of this version is served.
-pub fn labels_served(version: u32) -> bool
-    ensures { λ r. ⌜ r ≡ labelsServed version ⌝ }
-{
-    version == 1
-}
-
 // 11 for too few or too many bytes, 12, 13, or 0.
-fn header_form(labels: &[u8]) -> u32
-    ensures { λ r. ⌜ r ≡ headerForm (now (labels .entry)) ⌝ }
+fn header_form(labels: &[u8], serves: Served) -> u32
+    ensures { λ r. ⌜ r ≡ headerForm serves (now (labels .entry)) ⌝ }
 {
     if labels.len() < 16 {
         return 11;
@@ -42,7 +35,7 @@ fn header_form(labels: &[u8]) -> u32
     if !marked(b'T', b'L', b'B', labels) {
         return 12;
     }
-    if !labels_served(version_of(labels)) {
+    if !serves.includes(version_of(labels)) {
         return 13;
     }
     0
@@ -120,14 +113,15 @@ fn lists_form(labels: &[u8], depths: &[u32; 1024], tables: &mut [u32; 13312]) ->
 // 11 to 15 or 17 for labels alone, or 0; at 0 both tables are filled.
 pub fn labels_number_alone(
     labels: &[u8],
+    serves: Served,
     depths: &mut [u32; 1024],
     tables: &mut [u32; 13312],
 ) -> u32
     requires { ⌜ length (now depths) ≡ 1024 ⌝ }
     requires { ⌜ length (now tables) ≡ tablePlaces ⌝ }
-    ensures { λ r. ⌜ LabelsNumberedAlone (now (labels .entry)) (now (depths .exit)) (now (tables .exit)) r ⌝ }
+    ensures { λ r. ⌜ LabelsNumberedAlone serves (now (labels .entry)) (now (depths .exit)) (now (tables .exit)) r ⌝ }
 {
-    let header = header_form(labels);
+    let header = header_form(labels, serves);
     if header != 0 {
         return header;
     }
@@ -145,15 +139,16 @@ pub fn labels_number_alone(
 pub fn labels_number(
     net: &[u8],
     labels: &[u8],
+    serves: Served,
     depths: &mut [u32; 1024],
     tables: &mut [u32; 13312],
 ) -> u32
     requires { ⌜ NetworkFits (now net) ⌝ }
     requires { ⌜ length (now depths) ≡ 1024 ⌝ }
     requires { ⌜ length (now tables) ≡ tablePlaces ⌝ }
-    ensures { λ r. ⌜ LabelsNumbered (now (net .entry)) (now (labels .entry)) (now (depths .exit)) (now (tables .exit)) r ⌝ }
+    ensures { λ r. ⌜ LabelsNumbered serves (now (net .entry)) (now (labels .entry)) (now (depths .exit)) (now (tables .exit)) r ⌝ }
 {
-    let header = header_form(labels);
+    let header = header_form(labels, serves);
     if header != 0 {
         return header;
     }

@@ -2,10 +2,12 @@
 use crate::form::labels_number_alone;
 use forest::parents::is_ancestor;
 use network::header::junctions_of;
+use network::versions::version_one;
 use stored::place::find_list;
 ghost use mathlib.Core.Path.{_≡_};
 ghost use Prim.Native.Nat.{_+_, _≤_, _<_};
 ghost use lib.ListN.{length};
+ghost use Rattle.network.specs.Versions.{versionOne};
 ghost use Rattle.network.specs.NetworkFile.{junctionsOf};
 ghost use Rattle.stored.specs.Stored.{listPlace};
 ghost use Rattle.files.specs.LabelForm.{labelsNumberAlone};
@@ -36,7 +38,7 @@ fn is_above(labels: &[u8], depths: &[u32; 1024], u: usize, v: usize) -> bool
 
 // Where the list to show stands in labels that passed.
 fn list_span(labels: &[u8], depths: &[u32; 1024], tables: &[u32; 13312], v: usize, u: usize) -> Span
-    requires { ⌜ labelsNumberAlone (now labels) ≡ 0 ⌝ }
+    requires { ⌜ labelsNumberAlone versionOne (now labels) ≡ 0 ⌝ }
     requires { ⌜ Formed (now labels) ⌝ }
     requires { ⌜ DepthsFilled (now labels) (now depths) ⌝ }
     requires { ⌜ StartsFilled (now labels) (now tables) ⌝ }
@@ -68,7 +70,7 @@ pub fn span_of(labels: &[u8], v: u32, u: u32) -> Span
 {
     let mut depths: [u32; 1024] = [0; 1024];
     let mut tables: [u32; 13312] = [0; 13312];
-    let number = labels_number_alone(labels, &mut depths, &mut tables);
+    let number = labels_number_alone(labels, version_one(), &mut depths, &mut tables);
     if number != 0 {
         return Span { start: 0, end: 0 };
     }

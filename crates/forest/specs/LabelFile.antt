@@ -6,7 +6,8 @@ use Prim.Native.Nat.{ℕ, _+_, _*_}
 use lib.Dec.{ltb, eqb}
 use Rattle.paths.specs.Forest.{Parents}
 use Rattle.bytes.specs.Bytes.{u16At, u32At}
-use Rattle.network.specs.NetworkFile.{junctionsOf}
+use Rattle.network.specs.NetworkFile.{versionOf, junctionsOf}
+use Rattle.forest.specs.LabelVersions.{entryBytes, firstTime, firstEnergy, stride}
 
 -- E, in bytes 8 to 11
 abbrev pub entriesOf : List ℕ → ℕ
@@ -27,28 +28,31 @@ listsFrom labels = 16 + 2 * junctionsOf labels
 unfoldable pub parentsOf : List ℕ → Parents
 parentsOf labels v = cond (ltb v (junctionsOf labels) && not (eqb (parentAt labels v) noParent)) (some (parentAt labels v)) none
 
--- A list at byte `at`: a count of 16 bits, then entries of 32 bits for the time and 32 for the energy
+-- A list at byte `at`: a count of 16 bits, then entries of 32 bits for the time and 32 for the energy, as its version lays them
 abbrev pub countAt : List ℕ → ℕ → ℕ
 countAt labels at = u16At labels at
 
 abbrev pub timeAt : List ℕ → ℕ → ℕ → ℕ
-timeAt labels at j = u32At labels (at + 2 + 8 * j)
+timeAt labels at j = u32At labels (at + firstTime (versionOf labels) (countAt labels at) + stride (versionOf labels) * j)
 
 abbrev pub energyAt : List ℕ → ℕ → ℕ → ℕ
-energyAt labels at j = u32At labels (at + 6 + 8 * j)
+energyAt labels at j = u32At labels (at + firstEnergy (versionOf labels) (countAt labels at) + stride (versionOf labels) * j)
+
+abbrev pub countBytes : ℕ
+countBytes = 2
 
 -- The bytes behind its count, behind its first entries, and behind the time and the energy of entry j
 abbrev pub countEnd : ℕ → ℕ
-countEnd at = at + 2
+countEnd at = at + countBytes
 
-abbrev pub entriesEnd : ℕ → ℕ → ℕ
-entriesEnd at count = at + 2 + 8 * count
+abbrev pub entriesEnd : List ℕ → ℕ → ℕ → ℕ
+entriesEnd labels at count = countEnd at + entryBytes (versionOf labels) * count
 
-abbrev pub timeEnd : ℕ → ℕ → ℕ
-timeEnd at j = at + 6 + 8 * j
+abbrev pub timeEnd : List ℕ → ℕ → ℕ → ℕ
+timeEnd labels at j = at + (firstTime (versionOf labels) (countAt labels at) + 4) + stride (versionOf labels) * j
 
-abbrev pub energyEnd : ℕ → ℕ → ℕ
-energyEnd at j = at + 10 + 8 * j
+abbrev pub energyEnd : List ℕ → ℕ → ℕ → ℕ
+energyEnd labels at j = at + (firstEnergy (versionOf labels) (countAt labels at) + 4) + stride (versionOf labels) * j
 
 -- How many bytes a list of two entries takes
 abbrev pub shortBytes : ℕ
@@ -56,4 +60,4 @@ shortBytes = 18
 
 -- Where the next list starts
 unfoldable pub listEnd : List ℕ → ℕ → ℕ
-listEnd labels at = entriesEnd at (countAt labels at)
+listEnd labels at = entriesEnd labels at (countAt labels at)

@@ -65,7 +65,7 @@ pub extern "C" fn measured_form(net: &[u8], labels: &[u8]) -> u32
     }
     let mut depths: [u32; 1024] = [0; 1024];
     let mut tables: [u32; 13312] = [0; 13312];
-    labels_number(net, labels, &mut depths, &mut tables)
+    labels_number(net, labels, version_one(), &mut depths, &mut tables)
 }
 
 // Join, for all inputs.

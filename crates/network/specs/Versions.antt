@@ -1,7 +1,8 @@
--- Which versions of the two files are served, and what each asks; version 1 alone is (SCOPE 3.1). `proofs/VersionTable.antt` pins the rows.
+-- Which versions of a file are served, and what each version asks of a network; version 1 alone is served (SCOPE 3.1). `proofs/VersionTable.antt` pins
+-- the rows; those of labels are `LabelVersions` of `forest`.
 use mathlib.Core.Bool.{Bool, _&&_}
 use Prim.Native.Nat.{ℕ}
-use lib.Dec.{leb, eqb}
+use lib.Dec.{leb}
 use Rattle.network.specs.declared.versions.Served.{Served}
 
 -- ---- Which are served
@@ -14,13 +15,9 @@ served serves version = leb (serves .first) version && leb version (serves .last
 abbrev pub versionOne : Served
 versionOne = record { first = 1; last = 1 }
 
--- The versions of a label file that are served
-abbrev pub labelsServed : ℕ → Bool
-labelsServed version = eqb version 1
-
 -- ---- What each asks
 
--- The least energy of a road, and of an entry
+-- The least energy of a road
 abbrev pub leastEnergy : ℕ → ℕ
 leastEnergy version = 1
 

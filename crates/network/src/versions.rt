@@ -1,4 +1,4 @@
-// Which versions of the two files are served, and what a version asks of them.
+// Which versions of a file are served, and what a version asks of a network.
 use paths::energy::Energy;
 ghost use mathlib.Core.Path.{_≡_};
 ghost use Rattle.network.specs.Versions.{served, versionOne, leastEnergy};
@@ -25,7 +25,7 @@ pub fn version_one() -> Served
     Served { first: 1, last: 1 }
 }
 
-// The least energy of a road, and of an entry.
+// The least energy of a road.
 pub fn least_energy(version: u32) -> Energy
     ensures { λ r. ⌜ r .0 ≡ leastEnergy version ⌝ }
 {

@@ -11,7 +11,7 @@ use lib.ListN.{length}
 use borrow.Author.Tests.{leb-true, ltb-true, le-leb, lt-leb, lt-ltb, not-true, not-false}
 use Rattle.refusals.specs.Order.{firstFault}
 use Rattle.refusals.proofs.Order.{and-both, faultsFrom, fault-next, fault-here, fault-end}
-use Rattle.network.specs.Versions.{leastEnergy}
+use Rattle.forest.specs.LabelVersions.{leastEntryEnergy}
 use Rattle.network.specs.NetworkFile.{versionOf}
 use Rattle.forest.specs.LabelFile.{countAt, timeAt, energyAt}
 use Rattle.stored.specs.ListForm.{mostCount, mostFigure, timeFits, energyFits, entryNumber, listNumber}
@@ -56,16 +56,16 @@ implied false false c f = refl
 
 -- the energy's rule is a range from the floor on, which is no less than the least
 energy-by-floor :
-    (s : List ℕ) (at j : ℕ) → leastEnergy (versionOf s) ≤ energyFloor s at j →
+    (s : List ℕ) (at j : ℕ) → leastEntryEnergy (versionOf s) ≤ energyFloor s at j →
     energyFits s at j ≡ energyFrom (energyFloor s at j) (energyAt s at j)
 unfolding energyFits
-energy-by-floor s at zero from = turned (leb (leastEnergy (versionOf s)) (energyAt s at 0)) (leb (energyAt s at 0) mostFigure)
+energy-by-floor s at zero from = turned (leb (leastEntryEnergy (versionOf s)) (energyAt s at 0)) (leb (energyAt s at 0) mostFigure)
 energy-by-floor s at (suc j) from =
     implied
-    (leb (leastEnergy (versionOf s)) (energyAt s at (suc j)))
+    (leb (leastEntryEnergy (versionOf s)) (energyAt s at (suc j)))
     (leb (energyAt s at (suc j)) mostFigure)
     (ltb (energyAt s at j) (energyAt s at (suc j)))
-    (λ h. le-leb (leastEnergy (versionOf s)) (energyAt s at (suc j)) (omega (arith, from, ltb-true (energyAt s at j) (energyAt s at (suc j)) h)))
+    (λ h. le-leb (leastEntryEnergy (versionOf s)) (energyAt s at (suc j)) (omega (arith, from, ltb-true (energyAt s at j) (energyAt s at (suc j)) h)))
 
 -- the test against the ceiling is the time's rule
 pub time-tested :
@@ -75,7 +75,7 @@ time-tested s at j is-ceiling is-time tested = tested ∙ rw (is-time, is-ceilin
 
 -- the test against the floor is the energy's rule
 pub energy-tested :
-    (s : List ℕ) (at j : ℕ) {x : Bool} {e floor : ℕ} → leastEnergy (versionOf s) ≤ floor → floor ≡ energyFloor s at j → e ≡ energyAt s at j →
+    (s : List ℕ) (at j : ℕ) {x : Bool} {e floor : ℕ} → leastEntryEnergy (versionOf s) ≤ floor → floor ≡ energyFloor s at j → e ≡ energyAt s at j →
     x ≡ energyFrom floor e → x ≡ energyFits s at j
 energy-tested s at j from is-floor is-energy tested =
     tested ∙ rw (is-energy, is-floor) (sym (energy-by-floor s at j (omega (arith, from, is-floor))))
@@ -109,10 +109,10 @@ module _ (s : List ℕ) (at : ℕ) where
     pub left : firstFault (entryNumber s at) 0 whole ≡ faultsFrom (entryNumber s at) whole j
     pub is-ceiling : ceiling ≡ timeCeiling s at j
     pub is-floor : floor ≡ energyFloor s at j
-    pub from-least : leastEnergy (versionOf s) ≤ floor
+    pub from-least : leastEntryEnergy (versionOf s) ≤ floor
 
   -- before the first entry
-  pub tested-none : (whole : ℕ) {least : ℕ} → least ≡ leastEnergy (versionOf s) → Tested whole 0 (suc mostFigure) least
+  pub tested-none : (whole : ℕ) {least : ℕ} → least ≡ leastEntryEnergy (versionOf s) → Tested whole 0 (suc mostFigure) least
   tested-none whole is-least =
       record {
         few = omega arith;
@@ -212,7 +212,7 @@ module _ (s : List ℕ) (at : ℕ) where
   unfolding listNumber
   list-long inside is long = rw (le-leb (at + 2) (length s) inside, lt-leb (countAt s at) mostCount (omega (arith, is)))
 
-  module _ {count whole number : ℕ} (inside : at + 2 ≤ length s) (is : count ≡ countAt s at) (short : count ≤ mostCount) (some : Inside (length s - at - 2) count whole) where
+  module _ {count whole number : ℕ} (inside : at + 2 ≤ length s) (is : count ≡ countAt s at) (short : count ≤ mostCount) (some : Inside s at count whole) where
     -- a fault among the entries that stand whole
     pub list-faulty : number ≡ firstFault (entryNumber s at) 0 whole → (number ≡ 0 → ⊥) → number ≡ listNumber s at
     list-faulty e apart =

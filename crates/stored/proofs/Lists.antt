@@ -12,7 +12,7 @@ use Rattle.paths.specs.Weights.{pair}
 use Rattle.paths.specs.TradeOff.{Ordered, none, one, more}
 use Rattle.refusals.specs.Order.{unless, firstFault}
 use Rattle.refusals.proofs.Order.{unless-passed, and-both, and-true, and-false-left, and-false-right, no-fault}
-use Rattle.network.specs.Versions.{leastEnergy}
+use Rattle.forest.specs.LabelVersions.{leastEntryEnergy}
 use Rattle.network.specs.NetworkFile.{versionOf}
 use Rattle.forest.specs.LabelFile.{countAt, timeAt, energyAt, listEnd}
 use Rattle.stored.specs.Stored.{listsOf, placeOf, tabulate, listAt}
@@ -69,7 +69,7 @@ pub record TimeRules (s : List ℕ) (at j : ℕ) : Type 0 where
   pub follows : timeFollows s at j ≡ true
 
 pub record EnergyRules (s : List ℕ) (at j : ℕ) : Type 0 where
-  pub least : leastEnergy (versionOf s) ≤ energyAt s at j
+  pub least : leastEntryEnergy (versionOf s) ≤ energyAt s at j
   pub most : energyAt s at j ≤ mostFigure
   pub follows : energyFollows s at j ≡ true
 
@@ -85,8 +85,8 @@ time-rules {s} {at} {j} e =
 pub energy-rules : {s : List ℕ} {at j : ℕ} → energyFits s at j ≡ true → EnergyRules s at j
 unfolding energyFits
 energy-rules {s} {at} {j} e =
-    let a = and-both (leb (leastEnergy (versionOf s)) (energyAt s at j) && leb (energyAt s at j) mostFigure) (energyFollows s at j) e in
-    let b = and-both (leb (leastEnergy (versionOf s)) (energyAt s at j)) (leb (energyAt s at j) mostFigure) (a .0) in
+    let a = and-both (leb (leastEntryEnergy (versionOf s)) (energyAt s at j) && leb (energyAt s at j) mostFigure) (energyFollows s at j) e in
+    let b = and-both (leb (leastEntryEnergy (versionOf s)) (energyAt s at j)) (leb (energyAt s at j) mostFigure) (a .0) in
     record { least = leb-true _ _ (b .0); most = leb-true _ _ (b .1); follows = a .1 }
 
 pub rules-energy : {s : List ℕ} {at j : ℕ} → EnergyRules s at j → energyFits s at j ≡ true

@@ -8,7 +8,7 @@ use lib.Dec.{leb, ltb}
 use lib.ListN.{length}
 use borrow.Author.Tests.{leb-true, ltb-true, lt-ltb, not-false}
 use Rattle.refusals.proofs.Order.{all-pass}
-use Rattle.network.specs.Versions.{leastEnergy}
+use Rattle.forest.specs.LabelVersions.{leastEntryEnergy}
 use Rattle.network.specs.NetworkFile.{versionOf}
 use Rattle.forest.specs.LabelFile.{countAt, timeAt, energyAt, energyEnd, listEnd}
 use Rattle.stored.specs.ListForm.{mostFigure, entryNumber, listNumber}
@@ -51,7 +51,7 @@ energy-follows {before} {e} {x} small passed rises holds =
 module _ (s : List ℕ) (at : ℕ) where
   -- a first entry whose flag is 1 keeps the rules
   pub first-flagged :
-      {x y : Bool} {t e r least : ℕ} → energyEnd at 0 ≤ length s → least ≡ leastEnergy (versionOf s) → t ≡ timeAt s at 0 →
+      {x y : Bool} {t e r least : ℕ} → energyEnd s at 0 ≤ length s → least ≡ leastEntryEnergy (versionOf s) → t ≡ timeAt s at 0 →
       x ≡ timeBelow (suc mostFigure) t → e ≡ energyAt s at 0 → y ≡ energyFrom least e → Flagged ((x ≡ true) × (y ≡ true)) r →
       Flagged (entryNumber s at 0 ≡ 0) r
   first-flagged inside is-least is-time timed is-energy tested =
@@ -66,7 +66,7 @@ module _ (s : List ℕ) (at : ℕ) where
 
   -- and so does a second behind it
   pub second-flagged :
-      {x y : Bool} {t e r before-time before-energy : ℕ} → energyEnd at 1 ≤ length s → before-time ≡ timeAt s at 0 → t ≡ timeAt s at 1 →
+      {x y : Bool} {t e r before-time before-energy : ℕ} → energyEnd s at 1 ≤ length s → before-time ≡ timeAt s at 0 → t ≡ timeAt s at 1 →
       x ≡ timeBelow before-time t → before-energy ≡ energyAt s at 0 → e ≡ energyAt s at 1 → (y ≡ true → EnergyFollows before-energy e) →
       Flagged ((x ≡ true) × (y ≡ true)) r → Flagged (entryNumber s at 0 ≡ 0 → entryNumber s at 1 ≡ 0) r
   second-flagged inside is-before is-time timed is-first is-energy follows =
@@ -119,7 +119,7 @@ short-passes {s} {at} leads inside is short =
 
 -- a list of one entry that keeps the rules
 pub single-passes :
-    {s : List ℕ} {at count : ℕ} → energyEnd at 0 ≤ length s → count ≡ countAt s at → count ≡ 1 → entryNumber s at 0 ≡ 0 → SingleList s at
+    {s : List ℕ} {at count : ℕ} → energyEnd s at 0 ≤ length s → count ≡ countAt s at → count ≡ 1 → entryNumber s at 0 ≡ 0 → SingleList s at
 single-passes {s} {at} inside is one fits = record { one = sym is ∙ one; fits = short-passes lead (omega arith) is (omega arith) }
   where
     first : (j : ℕ) → j < 1 → entryNumber s at j ≡ 0
@@ -152,8 +152,8 @@ module _ {s : List ℕ} {at lists total end : ℕ} where
   running-more {k} {here} running h fits is short step =
       rw (step .listed, step .counted)
       (record {
-        run = passed-more s at lists total (running .run) (omega (arith, running .reach)) (sym fits) refl is (step .place ∙ ap (λ n. here + 2 + 8 * n) is);
+        run = passed-more s at lists total (running .run) (omega (arith, running .reach)) (sym fits) refl is (step .place s ∙ ap (λ n. here + 2 + 8 * n) is);
         reach = running .reach;
         few = omega arith;
-        room = omega (arith, running .room, step .place);
+        room = omega (arith, running .room, step .place s);
       })

@@ -5,7 +5,7 @@ use Prim.Native.Nat.{ℕ, zero, suc}
 use lib.Dec.{leb, ltb}
 use lib.ListN.{length}
 use Rattle.refusals.specs.Order.{unless, firstFault}
-use Rattle.network.specs.Versions.{leastEnergy}
+use Rattle.forest.specs.LabelVersions.{leastEntryEnergy}
 use Rattle.network.specs.NetworkFile.{versionOf}
 use Rattle.forest.specs.LabelFile.{countAt, timeAt, energyAt, countEnd, timeEnd, energyEnd}
 use Rattle.stored.specs.Stored.{listsOf, placeOf}
@@ -34,14 +34,14 @@ timeFits labels at j = leb 1 (timeAt labels at j) && leb (timeAt labels at j) mo
 
 unfoldable pub energyFits : List ℕ → ℕ → ℕ → Bool
 energyFits labels at j =
-    leb (leastEnergy (versionOf labels)) (energyAt labels at j) && leb (energyAt labels at j) mostFigure && energyFollows labels at j
+    leb (leastEntryEnergy (versionOf labels)) (energyAt labels at j) && leb (energyAt labels at j) mostFigure && energyFollows labels at j
 
 -- Number by number as they stand in the file: 11 for one that is cut off, 17 for one that breaks its rule
 unfoldable pub entryNumber : List ℕ → ℕ → ℕ → ℕ
 entryNumber labels at j =
-    unless (leb (timeEnd at j) (length labels)) 11
+    unless (leb (timeEnd labels at j) (length labels)) 11
     (unless (timeFits labels at j) 17
-    (unless (leb (energyEnd at j) (length labels)) 11
+    (unless (leb (energyEnd labels at j) (length labels)) 11
     (unless (energyFits labels at j) 17
     0)))
 

@@ -13,7 +13,7 @@ ghost use mathlib.Core.Path.{_≡_};
 ghost use mathlib.Core.Bool.{true};
 ghost use Prim.Native.Nat.{_≤_, _<_};
 ghost use lib.ListN.{length};
-ghost use Rattle.network.specs.Versions.{leastEnergy};
+ghost use Rattle.forest.specs.LabelVersions.{leastEntryEnergy};
 ghost use Rattle.network.specs.NetworkFile.{versionOf};
 ghost use Rattle.forest.specs.LabelFile.{energyEnd};
 ghost use Rattle.stored.specs.ListForm.{mostBytes, mostCount, entryNumber};
@@ -72,8 +72,8 @@ fn energy_follows(before: Energy, energy: Energy) -> bool
 
 // 1 if the first entry keeps the rules.
 fn first_entry(labels: &[u8], least: Energy, at: usize) -> u32
-    requires { ⌜ energyEnd at 0 ≤ length (now labels) ⌝ }
-    requires { ⌜ least .0 ≡ leastEnergy (versionOf (now labels)) ⌝ }
+    requires { ⌜ energyEnd (now labels) at 0 ≤ length (now labels) ⌝ }
+    requires { ⌜ least .0 ≡ leastEntryEnergy (versionOf (now labels)) ⌝ }
     ensures { λ r. ⌜ Flagged (entryNumber (now (labels .entry)) at 0 ≡ 0) r ⌝ }
 {
     let time = time_at(labels, at, 0);
@@ -86,7 +86,7 @@ fn first_entry(labels: &[u8], least: Energy, at: usize) -> u32
 
 // 1 if the second does, provided that the first does: what follows a fit energy is no less than the least.
 fn second_entry(labels: &[u8], at: usize) -> u32
-    requires { ⌜ energyEnd at 1 ≤ length (now labels) ⌝ }
+    requires { ⌜ energyEnd (now labels) at 1 ≤ length (now labels) ⌝ }
     ensures { λ r. ⌜ Flagged (entryNumber (now (labels .entry)) at 0 ≡ 0 → entryNumber (now (labels .entry)) at 1 ≡ 0) r ⌝ }
 {
     let time = time_at(labels, at, 1);
@@ -99,8 +99,8 @@ fn second_entry(labels: &[u8], at: usize) -> u32
 
 // How many of the first two places for entries hold some that keep the rules, up to the first that does not.
 fn leading(labels: &[u8], least: Energy, at: usize) -> u32
-    requires { ⌜ energyEnd at 1 ≤ length (now labels) ⌝ }
-    requires { ⌜ least .0 ≡ leastEnergy (versionOf (now labels)) ⌝ }
+    requires { ⌜ energyEnd (now labels) at 1 ≤ length (now labels) ⌝ }
+    requires { ⌜ least .0 ≡ leastEntryEnergy (versionOf (now labels)) ⌝ }
     ensures { λ r. ⌜ Leading (now (labels .entry)) at r ⌝ }
 {
     let first = first_entry(labels, least, at);
@@ -110,8 +110,8 @@ fn leading(labels: &[u8], least: Energy, at: usize) -> u32
 
 // Whether the list at a byte has one entry, which keeps the rules.
 fn single_fits(labels: &[u8], least: Energy, at: usize) -> bool
-    requires { ⌜ energyEnd at 0 ≤ length (now labels) ⌝ }
-    requires { ⌜ least .0 ≡ leastEnergy (versionOf (now labels)) ⌝ }
+    requires { ⌜ energyEnd (now labels) at 0 ≤ length (now labels) ⌝ }
+    requires { ⌜ least .0 ≡ leastEntryEnergy (versionOf (now labels)) ⌝ }
     ensures { λ r. ⌜ (r ≡ true → SingleList (now (labels .entry)) at) ⌝ }
 {
     if count_at(labels, at) != 1 {
@@ -135,7 +135,7 @@ fn quick_lists(bytes: usize, lists: u32) -> u32
 pub fn pass_single(labels: &[u8], least: Energy, at: usize, lists: u32, total: usize) -> Run
     requires { ⌜ (at ≤ length (now labels)) × (length (now labels) ≤ mostBytes) ⌝ }
     requires { ⌜ total ≤ at ⌝ }
-    requires { ⌜ least .0 ≡ leastEnergy (versionOf (now labels)) ⌝ }
+    requires { ⌜ least .0 ≡ leastEntryEnergy (versionOf (now labels)) ⌝ }
     ensures { λ r. ⌜ PassedSome (now (labels .entry)) at lists total (r .lists) (r .at) (r .total) ⌝ }
 {
     let end = quick_lists(labels.len() - at, lists);
@@ -158,7 +158,7 @@ pub fn pass_single(labels: &[u8], least: Energy, at: usize, lists: u32, total: u
 pub fn pass_short(labels: &[u8], least: Energy, at: usize, lists: u32, total: usize) -> Run
     requires { ⌜ (at ≤ length (now labels)) × (length (now labels) ≤ mostBytes) ⌝ }
     requires { ⌜ total ≤ at ⌝ }
-    requires { ⌜ least .0 ≡ leastEnergy (versionOf (now labels)) ⌝ }
+    requires { ⌜ least .0 ≡ leastEntryEnergy (versionOf (now labels)) ⌝ }
     ensures { λ r. ⌜ PassedSome (now (labels .entry)) at lists total (r .lists) (r .at) (r .total) ⌝ }
 {
     let end = quick_lists(labels.len() - at, lists);

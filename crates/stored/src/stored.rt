@@ -5,9 +5,15 @@ use crate::runs::pass_single;
 use bytes::u16_at;
 use bytes::u32_at;
 use forest::parents::lists_from;
+use forest::versions::COUNT_BYTES;
+use forest::versions::ENTRY_BYTES;
+use forest::versions::FIRST_ENERGY;
+use forest::versions::FIRST_TIME;
+use forest::versions::STRIDE;
+use forest::versions::TIME_END;
+use forest::versions::least_entry_energy;
 use network::header::junctions_of;
 use network::header::version_of;
-use network::versions::least_energy;
 use paths::energy::Energy;
 use paths::seconds::Seconds;
 use tables::STARTS;
@@ -17,12 +23,12 @@ ghost use lib.ListN.{length};
 ghost use Rattle.tables.specs.working.Layout.{tablePlaces};
 ghost use Rattle.refusals.specs.Order.{firstFault};
 ghost use Rattle.bytes.specs.working.Reads.{Read16};
-ghost use Rattle.network.specs.Versions.{leastEnergy};
+ghost use Rattle.forest.specs.LabelVersions.{leastEntryEnergy};
 ghost use Rattle.network.specs.NetworkFile.{versionOf};
 ghost use Rattle.forest.specs.LabelFile.{countAt, timeAt, energyAt, countEnd, entriesEnd, timeEnd, energyEnd, listEnd};
 ghost use Rattle.stored.specs.ListForm.{mostBytes, mostCount, entryNumber, listNumber};
 ghost use Rattle.forest.specs.working.Fits.{ParentsFit, DepthsFilled};
-ghost use Rattle.stored.specs.working.Scanned.{timeCeiling, timeBelow, energyFrom, Inside, ScannedSome, Scanned, Loaded};
+ghost use Rattle.stored.specs.working.Scanned.{BehindEntries, timeCeiling, timeBelow, energyFrom, Inside, ScannedSome, Scanned, Loaded};
 
 const MOST_COUNT: usize = 4095;
 
@@ -45,25 +51,25 @@ pub fn count_at(labels: &[u8], at: usize) -> u32
 // The byte behind so many entries of it.
 pub fn entries_end(at: usize, count: usize) -> usize
     requires { ⌜ (at ≤ mostBytes) × (count < 65536) ⌝ }
-    ensures { λ r. ⌜ r ≡ entriesEnd at count ⌝ }
+    ensures { λ r. ⌜ BehindEntries at count r ⌝ }
 {
-    at + 2 + 8 * count
+    at + COUNT_BYTES + ENTRY_BYTES * count
 }
 
 // The time of entry j.
 pub fn time_at(labels: &[u8], at: usize, j: usize) -> Seconds
-    requires { ⌜ timeEnd at j ≤ length (now labels) ⌝ }
+    requires { ⌜ timeEnd (now labels) at j ≤ length (now labels) ⌝ }
     ensures { λ r. ⌜ r .0 ≡ timeAt (now (labels .entry)) at j ⌝ }
 {
-    Seconds(u32_at(labels, at + 2 + 8 * j))
+    Seconds(u32_at(labels, at + FIRST_TIME + STRIDE * j))
 }
 
 // Its energy.
 pub fn energy_at(labels: &[u8], at: usize, j: usize) -> Energy
-    requires { ⌜ energyEnd at j ≤ length (now labels) ⌝ }
+    requires { ⌜ energyEnd (now labels) at j ≤ length (now labels) ⌝ }
     ensures { λ r. ⌜ r .0 ≡ energyAt (now (labels .entry)) at j ⌝ }
 {
-    Energy(u32_at(labels, at + 6 + 8 * j))
+    Energy(u32_at(labels, at + FIRST_ENERGY + STRIDE * j))
 }
 
 // A time in range, and below what stands before it.
@@ -91,7 +97,7 @@ pub fn energy_fits(floor: Energy, energy: Energy) -> bool
 
 // What entry j's time stays below.
 fn time_ceiling(labels: &[u8], at: usize, j: usize) -> Seconds
-    requires { ⌜ timeEnd at j ≤ length (now labels) ⌝ }
+    requires { ⌜ timeEnd (now labels) at j ≤ length (now labels) ⌝ }
     ensures { λ r. ⌜ r .0 ≡ timeCeiling (now (labels .entry)) at j ⌝ }
 {
     if j == 0 {
@@ -104,10 +110,10 @@ fn time_ceiling(labels: &[u8], at: usize, j: usize) -> Seconds
 fn cut_entry_number(labels: &[u8], at: usize, j: usize) -> u32
     requires { ⌜ (at ≤ length (now labels)) × (length (now labels) ≤ mostBytes) ⌝ }
     requires { ⌜ j ≤ mostCount ⌝ }
-    requires { ⌜ length (now labels) < energyEnd at j ⌝ }
+    requires { ⌜ length (now labels) < energyEnd (now labels) at j ⌝ }
     ensures { λ r. ⌜ r ≡ entryNumber (now (labels .entry)) at j ⌝ }
 {
-    if labels.len() < at + 6 + 8 * j {
+    if labels.len() < at + TIME_END + STRIDE * j {
         return 11;
     }
     if !time_fits(time_ceiling(labels, at, j), time_at(labels, at, j)) {
@@ -118,8 +124,8 @@ fn cut_entry_number(labels: &[u8], at: usize, j: usize) -> u32
 
 // The number of the first entries of a list, all of which stand whole in the file. Each is read once.
 fn entries_number(labels: &[u8], least: Energy, at: usize, whole: usize) -> u32
-    requires { ⌜ entriesEnd at whole ≤ length (now labels) ⌝ }
-    requires { ⌜ least .0 ≡ leastEnergy (versionOf (now labels)) ⌝ }
+    requires { ⌜ entriesEnd (now labels) at whole ≤ length (now labels) ⌝ }
+    requires { ⌜ least .0 ≡ leastEntryEnergy (versionOf (now labels)) ⌝ }
     ensures { λ r. ⌜ r ≡ firstFault (entryNumber (now (labels .entry)) at) 0 whole ⌝ }
 {
     let mut ceiling = Seconds(MOST_FIGURE + 1);
@@ -141,11 +147,12 @@ fn entries_number(labels: &[u8], least: Energy, at: usize, whole: usize) -> u32
     0
 }
 
-// How many of `count` entries stand whole in so many bytes.
-fn entries_inside(bytes: usize, count: usize) -> usize
-    ensures { λ r. ⌜ Inside bytes count r ⌝ }
+// How many of `count` entries of the list at a byte stand whole in the file.
+fn entries_inside(labels: &[u8], at: usize, count: usize) -> usize
+    requires { ⌜ countEnd at ≤ length (now labels) ⌝ }
+    ensures { λ r. ⌜ Inside (now (labels .entry)) at count r ⌝ }
 {
-    let whole = bytes / 8;
+    let whole = (labels.len() - at - COUNT_BYTES) / ENTRY_BYTES;
     if whole < count {
         return whole;
     }
@@ -155,17 +162,17 @@ fn entries_inside(bytes: usize, count: usize) -> usize
 // The number of the list at a byte: 11, 17 or 0.
 pub fn list_number(labels: &[u8], least: Energy, at: usize) -> u32
     requires { ⌜ (at ≤ length (now labels)) × (length (now labels) ≤ mostBytes) ⌝ }
-    requires { ⌜ least .0 ≡ leastEnergy (versionOf (now labels)) ⌝ }
+    requires { ⌜ least .0 ≡ leastEntryEnergy (versionOf (now labels)) ⌝ }
     ensures { λ r. ⌜ r ≡ listNumber (now (labels .entry)) at ⌝ }
 {
-    if labels.len() < at + 2 {
+    if labels.len() < at + COUNT_BYTES {
         return 11;
     }
     let count = count_at(labels, at) as usize;
     if count > MOST_COUNT {
         return 17;
     }
-    let whole = entries_inside(labels.len() - at - 2, count);
+    let whole = entries_inside(labels, at, count);
     let number = entries_number(labels, least, at, whole);
     if number != 0 {
         return number;
@@ -188,7 +195,7 @@ pub struct Scan {
 fn scan_some(labels: &[u8], least: Energy, at: usize, lists: u32, total: usize) -> Scan
     requires { ⌜ (at ≤ length (now labels)) × (length (now labels) ≤ mostBytes) ⌝ }
     requires { ⌜ total ≤ at ⌝ }
-    requires { ⌜ least .0 ≡ leastEnergy (versionOf (now labels)) ⌝ }
+    requires { ⌜ least .0 ≡ leastEntryEnergy (versionOf (now labels)) ⌝ }
     ensures { λ r. ⌜ ScannedSome (now (labels .entry)) at lists total (r .number) (r .at) (r .total) ⌝ }
 {
     let mut place = Place { at: at };
@@ -220,7 +227,7 @@ fn scan_some(labels: &[u8], least: Energy, at: usize, lists: u32, total: usize) 
 fn scan_junction(labels: &[u8], least: Energy, at: usize, depth: u32, total: usize) -> Scan
     requires { ⌜ (at ≤ length (now labels)) × (length (now labels) ≤ mostBytes) ⌝ }
     requires { ⌜ total ≤ at ⌝ }
-    requires { ⌜ least .0 ≡ leastEnergy (versionOf (now labels)) ⌝ }
+    requires { ⌜ least .0 ≡ leastEntryEnergy (versionOf (now labels)) ⌝ }
     ensures { λ r. ⌜ ScannedSome (now (labels .entry)) at depth total (r .number) (r .at) (r .total) ⌝ }
 {
     let single = pass_single(labels, least, at, depth, total);
@@ -237,7 +244,7 @@ pub fn scan_lists(labels: &[u8], depths: &[u32; 1024], tables: &mut [u32; 13312]
     requires { ⌜ length (now tables) ≡ tablePlaces ⌝ }
     ensures { λ r. ⌜ Scanned (now (labels .entry)) (now (tables .exit)) (r .number) (r .at) (r .total) ⌝ }
 {
-    let least = least_energy(version_of(labels));
+    let least = least_entry_energy(version_of(labels));
     let n = junctions_of(labels) as usize;
     let mut at = lists_from(labels);
     let mut total: usize = 0;

@@ -14,7 +14,7 @@ use Rattle.accepted.specs.Check.{Checked}
 -- A network and labels that pass every test
 pub record Accepted (net labels : List ℕ) : Type 0 where
   pub network-passes : netNumber versionOne net ≡ 0
-  pub form-passes : labelsNumber net labels ≡ 0
+  pub form-passes : labelsNumber versionOne net labels ≡ 0
   pub every-list-right : EveryListRight net labels
 
 -- The check, with the tables of one call left filled where the number is 0

@@ -4,6 +4,7 @@ use mathlib.Core.List.{List}
 use Prim.Native.Nat.{ℕ}
 use lib.ListN.{length}
 use Rattle.tables.specs.working.Layout.{tablePlaces}
+use Rattle.network.specs.declared.versions.Served.{Served}
 use Rattle.files.specs.LabelForm.{parentsForm, listsForm, labelsNumber, labelsNumberAlone}
 use Rattle.forest.specs.working.Fits.{DepthsFilled}
 use Rattle.stored.specs.working.Formed.{Formed, FilesFit, StartsFilled}
@@ -29,11 +30,11 @@ pub record FormRead (labels depths tables : List ℕ) (form r : ℕ) : Type 0 wh
   pub table-places : length tables ≡ tablePlaces
 
 -- What `labels_number_alone` tells
-pub record LabelsNumberedAlone (labels depths tables : List ℕ) (r : ℕ) : Type 0 where
-  pub read : FormRead labels depths tables (labelsNumberAlone labels) r
+pub record LabelsNumberedAlone (serves : Served) (labels depths tables : List ℕ) (r : ℕ) : Type 0 where
+  pub read : FormRead labels depths tables (labelsNumberAlone serves labels) r
   pub formed : r ≡ 0 → Formed labels
 
 -- What `labels_number` tells
-pub record LabelsNumbered (net labels depths tables : List ℕ) (r : ℕ) : Type 0 where
-  pub read : FormRead labels depths tables (labelsNumber net labels) r
+pub record LabelsNumbered (serves : Served) (net labels depths tables : List ℕ) (r : ℕ) : Type 0 where
+  pub read : FormRead labels depths tables (labelsNumber serves net labels) r
   pub fit : r ≡ 0 → FilesFit net labels

@@ -19,12 +19,17 @@ returns c =
     let number = rw (c .before .before .version-one .ensures) at (c .before .net-number .ensures) in
     network-refused (λ z. omega (arith, number, z)) number
 
+version-one-requires-2 : tie.Need-version-one-requires-2
+version-one-requires-2 c κs = search needs
+
 labels-number-requires : tie.Need-labels-number-requires
 labels-number-requires c κs = (network-fits versionOne _ (cc), (refl, refl))
 
 returns-2 : tie.Need-returns-2
-returns-2 c = network-passed (cc) (c .labels-number .ensures .read .number)
+returns-2 c =
+    let number = rw (c .before .before .before .version-one2 .ensures) at (c .labels-number .ensures) in
+    network-passed (cc) (number .read .number)
 
 pub measured-form-spec : {M : Type 1} → statement M
 measured-form-spec =
-    tie.close (tie.spec version-one-requires net-number-requires returns labels-number-requires returns-2)
+    tie.close (tie.spec version-one-requires net-number-requires returns version-one-requires-2 labels-number-requires returns-2)

@@ -7,6 +7,6 @@ use Rattle.network.specs.NetworkNumber.{netNumber}
 use Rattle.files.specs.LabelForm.{labelsNumber}
 
 -- The number of the network or, where that is 0, of the labels beside it
-pub data FormNumber (net s : List ℕ) (number : ℕ) : Type 0 where
-  network-refused : (netNumber versionOne net ≡ 0 → ⊥) → number ≡ netNumber versionOne net → FormNumber net s number
-  network-passed : netNumber versionOne net ≡ 0 → number ≡ labelsNumber net s → FormNumber net s number
+pub data FormNumber (net labels : List ℕ) (number : ℕ) : Type 0 where
+  network-refused : (netNumber versionOne net ≡ 0 → ⊥) → number ≡ netNumber versionOne net → FormNumber net labels number
+  network-passed : netNumber versionOne net ≡ 0 → number ≡ labelsNumber versionOne net labels → FormNumber net labels number

@@ -5,7 +5,7 @@ use mathlib.Core.List.{List}
 use Prim.Native.Nat.{ℕ, suc, _+_, _≤_, _<_}
 use lib.ListN.{length, getD}
 use Rattle.tables.specs.working.Layout.{startsFrom, tablePlaces}
-use Rattle.network.specs.Versions.{leastEnergy}
+use Rattle.forest.specs.LabelVersions.{leastEntryEnergy}
 use Rattle.network.specs.NetworkFile.{versionOf, junctionsOf, roadsOf}
 use Rattle.network.specs.working.Fits.{NetworkFits}
 use Rattle.forest.specs.LabelFile.{entriesOf, countAt, timeAt, energyAt, listEnd}
@@ -26,7 +26,7 @@ pub record ListFits (labels : List ℕ) (at : ℕ) : Type 0 where
   pub short : countAt labels at ≤ mostCount
   pub inside : listEnd labels at ≤ length labels
   pub time-fits : (j : ℕ) → j < countAt labels at → (1 ≤ timeAt labels at j) × (timeAt labels at j ≤ mostFigure)
-  pub energy-fits : (j : ℕ) → j < countAt labels at → (leastEnergy (versionOf labels) ≤ energyAt labels at j) × (energyAt labels at j ≤ mostFigure)
+  pub energy-fits : (j : ℕ) → j < countAt labels at → (leastEntryEnergy (versionOf labels) ≤ energyAt labels at j) × (energyAt labels at j ≤ mostFigure)
   pub time-falls : (j : ℕ) → suc j < countAt labels at → timeAt labels at (suc j) < timeAt labels at j
   pub energy-rises : (j : ℕ) → suc j < countAt labels at → energyAt labels at j < energyAt labels at (suc j)
 

@@ -33,5 +33,5 @@ pub record Quick (bytes lists r : ℕ) : Type 0 where
 -- A run of lists and one list more, of so many entries
 pub record OneMore (lists at total count : ℕ) (more behind sum : ℕ) : Type 0 where
   pub listed : more ≡ lists + 1
-  pub place : behind ≡ entriesEnd at count
+  pub place : (labels : List ℕ) → behind ≡ entriesEnd labels at count
   pub counted : sum ≡ total + count

@@ -8,9 +8,9 @@ use lib.ListN.{length}
 use Rattle.tables.specs.working.Layout.{tablePlaces}
 use Rattle.refusals.specs.Order.{firstFault}
 use Rattle.refusals.specs.Lent.{filled}
-use Rattle.network.specs.Versions.{leastEnergy}
+use Rattle.forest.specs.LabelVersions.{leastEntryEnergy, entryBytes}
 use Rattle.network.specs.NetworkFile.{versionOf}
-use Rattle.forest.specs.LabelFile.{countAt, timeAt, energyAt, listEnd}
+use Rattle.forest.specs.LabelFile.{countAt, timeAt, energyAt, countBytes, entriesEnd, listEnd}
 use Rattle.stored.specs.Stored.{listsOf, placeOf, listPlace, entriesBefore, tabulate}
 use Rattle.stored.specs.ListForm.{mostFigure, listNumber, listsNumber}
 use Rattle.stored.specs.working.Formed.{StartsFilled}
@@ -34,7 +34,7 @@ timeCeiling labels at (suc j) = timeAt labels at j
 
 -- Entry j's energy is at least one more than the energy before it; the first entry's at least the least
 abbrev pub energyFloor : List ℕ → ℕ → ℕ → ℕ
-energyFloor labels at zero = leastEnergy (versionOf labels)
+energyFloor labels at zero = leastEntryEnergy (versionOf labels)
 energyFloor labels at (suc j) = suc (energyAt labels at j)
 
 -- A time from 1 to the most, and below a ceiling
@@ -45,18 +45,22 @@ timeBelow ceiling t = leb 1 t && leb t mostFigure && ltb t ceiling
 abbrev pub energyFrom : ℕ → ℕ → Bool
 energyFrom floor e = leb e mostFigure && leb floor e
 
--- Of `count` entries, `whole` stand whole in so many bytes
-pub record Inside (bytes count whole : ℕ) : Type 0 where
+-- r is the byte behind so many entries of a list at byte `at`; an entry takes as many bytes in every version
+pub record BehindEntries (at count r : ℕ) : Type 0 where
+  pub each : (labels : List ℕ) → r ≡ entriesEnd labels at count
+
+-- Of `count` entries of the list at byte `at`, `whole` stand whole in the file
+pub record Inside (labels : List ℕ) (at count whole : ℕ) : Type 0 where
   pub few : whole ≤ count
-  pub fits : 8 * whole ≤ bytes
-  pub cut : whole < count → bytes < 8 * whole + 8
+  pub fits : entriesEnd labels at whole ≤ length labels
+  pub cut : whole < count → length labels < entriesEnd labels at (suc whole)
 
 -- After the k lists from byte `at` on: their number and, if that is 0, the byte behind them and the entries counted so far
 pub record ScannedSome (labels : List ℕ) (at k total : ℕ) (number behind sum : ℕ) : Type 0 where
   pub is : number ≡ firstFault (λ i. listNumber labels (further labels at i)) 0 k
   pub place : number ≡ 0 → behind ≡ further labels at k
   pub inside : number ≡ 0 → behind ≤ length labels
-  pub counted : number ≡ 0 → at + 2 * k + 8 * sum ≡ behind + 8 * total
+  pub counted : number ≡ 0 → at + countBytes * k + entryBytes (versionOf labels) * sum ≡ behind + entryBytes (versionOf labels) * total
 
 -- Of so many lists from byte `at` on the first k are passed, none with a fault
 pub record PassedSome (labels : List ℕ) (at lists total : ℕ) (k behind sum : ℕ) : Type 0 where
@@ -64,7 +68,7 @@ pub record PassedSome (labels : List ℕ) (at lists total : ℕ) (k behind sum :
   pub none : firstFault (λ i. listNumber labels (further labels at i)) 0 k ≡ 0
   pub place : behind ≡ further labels at k
   pub inside : behind ≤ length labels
-  pub counted : at + 2 * k + 8 * sum ≡ behind + 8 * total
+  pub counted : at + countBytes * k + entryBytes (versionOf labels) * sum ≡ behind + entryBytes (versionOf labels) * total
 
 -- After all lists: their number and, if that is 0, the byte behind the last, all entries, and where each junction's lists start
 pub record Scanned (labels tables : List ℕ) (number at total : ℕ) : Type 0 where

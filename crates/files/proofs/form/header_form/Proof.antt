@@ -6,10 +6,10 @@ use Rattle.files.proofs.form.header_form.Statement.{statement}
 use Rattle.files.proofs.form.header_form.Tie as tie
 
 returns : tie.Need-returns
-returns c = header-short _ (omega arith)
+returns c = header-short _ _ (omega arith)
 
 returns-2 : tie.Need-returns-2
-returns-2 c = header-huge _ (omega arith) (omega arith)
+returns-2 c = header-huge _ _ (omega arith) (omega arith)
 
 marked-requires : tie.Need-marked-requires
 marked-requires c κs = search needs
@@ -20,8 +20,8 @@ returns-3 c = search (header-unmarked)
 version-of-requires : tie.Need-version-of-requires
 version-of-requires c κs = search needs
 
-labels-served-requires : tie.Need-labels-served-requires
-labels-served-requires c κs = search needs
+includes-requires : tie.Need-includes-requires
+includes-requires c κs = search needs
 
 returns-4 : tie.Need-returns-4
 returns-4 c = search (header-unserved)
@@ -38,6 +38,6 @@ header-form-spec =
     marked-requires
     returns-3
     version-of-requires
-    labels-served-requires
+    includes-requires
     returns-4
     returns-5)

@@ -51,7 +51,7 @@ lists-form-requires c κs =
       numbered-fit few (passed .before .parents-form .ensures) (passed .if3 .left),
       (
         numbered-filled (passed .before .parents-form .ensures) (passed .if3 .left),
-        (header-few _ (header .before .header-form .ensures) (header .if1 .left), given .1 .1),
+        (header-few _ _ (header .before .header-form .ensures) (header .if1 .left), given .1 .1),
       ),
     )
 

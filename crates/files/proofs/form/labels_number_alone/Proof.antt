@@ -24,7 +24,17 @@ returns-3 : tie.Need-returns-3
 returns-3 c = search (labels-numbered-alone, read-parents)
 
 lists-form-requires : tie.Need-lists-form-requires
-lists-form-requires c κs = search (header-few, alone-few, numbered-fit, numbered-filled, needs)
+lists-form-requires c κs =
+    let passed = c .before .before in
+    let fits = passed .before .before .before in
+    let header = fits .before .before in
+    let few = alone-few _ (fits .before .junctions-fit .ensures) (fits .if2 .left) in (
+      numbered-fit few (passed .before .parents-form .ensures) (passed .if3 .left),
+      (
+        numbered-filled (passed .before .parents-form .ensures) (passed .if3 .left),
+        (header-few _ _ (header .before .header-form .ensures) (header .if1 .left), header .before .before .before .pre .1),
+      ),
+    )
 
 returns-4 : tie.Need-returns-4
 returns-4 c =
@@ -33,6 +43,7 @@ returns-4 c =
     let header = fits .before .before in
     labels-numbered-alone
     (read-lists
+    _
     _
     _
     _

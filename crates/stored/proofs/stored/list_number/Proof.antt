@@ -20,12 +20,6 @@ cast-count c = search needs
 returns-2 : tie.Need-returns-2
 returns-2 c = list-long _ _ (c .before .before .if1 .left) (c .before .count-at .ensures .is) (omega arith)
 
-sub-entries-inside : tie.Need-sub-entries-inside
-sub-entries-inside c = search needs
-
-sub-entries-inside-2 : tie.Need-sub-entries-inside-2
-sub-entries-inside-2 c = search needs
-
 entries-inside-requires : tie.Need-entries-inside-requires
 entries-inside-requires c κs = search needs
 
@@ -65,8 +59,6 @@ list-number-spec =
     count-at-requires
     cast-count
     returns-2
-    sub-entries-inside
-    sub-entries-inside-2
     entries-inside-requires
     entries-number-requires
     returns-3

@@ -16,8 +16,8 @@ abbrev μ-loop : tie.MeasureT-loop
 version-of-requires : tie.Need-version-of-requires Inv-loop μ-loop
 version-of-requires c κs = search needs
 
-least-energy-requires : tie.Need-least-energy-requires Inv-loop μ-loop
-least-energy-requires c κs = search needs
+least-entry-energy-requires : tie.Need-least-entry-energy-requires Inv-loop μ-loop
+least-entry-energy-requires c κs = search needs
 
 junctions-of-requires : tie.Need-junctions-of-requires Inv-loop μ-loop
 junctions-of-requires c κs = search needs
@@ -83,7 +83,7 @@ scan-lists-spec =
     Inv-loop
     μ-loop
     version-of-requires
-    least-energy-requires
+    least-entry-energy-requires
     junctions-of-requires
     cast-n
     lists-from-requires
