@@ -9,7 +9,7 @@ use lib.ListN.{length}
 use Rattle.refusals.specs.Order.{unless, decided, every, firstFault}
 use Rattle.bytes.specs.Bytes.{marked}
 use Rattle.network.specs.declared.versions.Served.{Served}
-use Rattle.network.specs.Versions.{versionOne, served, labelsServed}
+use Rattle.network.specs.Versions.{versionOne, served}
 use Rattle.network.specs.NetworkFile.{versionOf, roadsOf, recordAt}
 use Rattle.network.specs.NetworkNumber.{endsFit, figuresFit, recordNumber, sizesFit, headerNumber, netNumber}
 use Rattle.forest.specs.LabelFile.{entriesOf, listsFrom, countAt, countEnd, timeEnd, energyEnd}
@@ -87,31 +87,31 @@ unfolding parentsForm
 parents-most labels =
     unless-most (leb (listsFrom labels) (length labels)) 11 (omega arith) (unless-most (parentsPass labels) 15 (omega arith) none-most)
 
-label-header-most : (labels : List ℕ) → headerForm labels ≤ 18
+label-header-most : (serves : Served) (labels : List ℕ) → headerForm serves labels ≤ 18
 unfolding headerForm
-label-header-most labels =
+label-header-most serves labels =
     unless-most (leb 16 (length labels) && leb (length labels) mostBytes) 11 (omega arith)
     (unless-most (marked 84 76 66 labels) 12 (omega arith)
-    (unless-most (labelsServed (versionOf labels)) 13 (omega arith) none-most))
+    (unless-most (served serves (versionOf labels)) 13 (omega arith) none-most))
 
-form-most : (fits joins : Bool) (labels : List ℕ) → labelForm fits joins labels ≤ 18
+form-most : (serves : Served) (fits joins : Bool) (labels : List ℕ) → labelForm serves fits joins labels ≤ 18
 unfolding labelForm
-form-most fits joins labels =
-    decided-most (headerForm labels) (label-header-most labels)
+form-most serves fits joins labels =
+    decided-most (headerForm serves labels) (label-header-most serves labels)
     (unless-most fits 14 (omega arith)
     (decided-most (parentsForm labels) (parents-most labels)
     (unless-most joins 16 (omega arith) (lists-most labels))))
 
-labels-most : (net labels : List ℕ) → labelsNumber net labels ≤ 18
+labels-most : (serves : Served) (net labels : List ℕ) → labelsNumber serves net labels ≤ 18
 unfolding labelsNumber
-labels-most net labels = form-most (sameNetwork net labels) (every (roadJoins net labels) (roadsOf net)) labels
+labels-most serves net labels = form-most serves (sameNetwork net labels) (every (roadJoins net labels) (roadsOf net)) labels
 
 -- ---- The check
 
 module _ {net labels : List ℕ} {number : ℕ} where
   check-most : Checked net labels number → number ≤ 18
   check-most (network-refused n e) = omega (arith, network-most versionOne net)
-  check-most (labels-refused z n e) = omega (arith, labels-most net labels)
+  check-most (labels-refused z n e) = omega (arith, labels-most versionOne net labels)
   check-most (list-wrong z y w e) = omega arith
   check-most (accepted z y w e) = omega arith
 
