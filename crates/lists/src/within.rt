@@ -7,7 +7,8 @@ pub fn within(energies: &[u32], limit: Energy) -> usize
 {
     let mut count = 0;
     while count < energies.len() {
-        if limit.below(Energy(energies[count])) {
+        let energy = Energy(energies[count]);
+        if limit.below(energy) {
             return count;
         }
         count += 1;

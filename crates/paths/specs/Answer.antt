@@ -17,12 +17,12 @@ module _ {𝓛 : Figures} (𝓝 : Network 𝓛) where
     pub within : Within 𝓛 limit p
     pub least : (other : Walk 𝓝 s t) → Within 𝓛 limit (weight other) → NotLater 𝓛 p (weight other)
 
-  -- 23: some path, but none within the limit
+  -- 23 (SCOPE 4.2): some path, but none within the limit
   pub record Over (s t : ℕ) (limit : 𝓛 .Figure) : Type 0 where
     pub walk : Walk 𝓝 s t
     pub none-within : (other : Walk 𝓝 s t) → Within 𝓛 limit (weight other) → ⊥
 
-  -- 22: no path
+  -- 22 (SCOPE 4.2): no path
   abbrev pub Apart : ℕ → ℕ → Type 0
   Apart s t = Walk 𝓝 s t → ⊥
 
@@ -35,6 +35,6 @@ module _ (𝓛 : Figures) where
     pub within : Within 𝓛 limit p
     pub least : (q : Weight) → IsSum 𝓛 k l q → Within 𝓛 limit q → NotLater 𝓛 p q
 
-  -- Limited join's 23: every sum is above the limit
+  -- Limited join's 23 (SCOPE 4.2): every sum is above the limit
   abbrev pub NoSum : List Weight → List Weight → 𝓛 .Figure → Type 0
   NoSum k l limit = (p : Weight) → IsSum 𝓛 k l p → Within 𝓛 limit p → ⊥

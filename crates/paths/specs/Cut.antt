@@ -12,7 +12,7 @@ module _ {𝓛 : Figures} (𝓝 : Network 𝓛) (H : ℕ → Type 0) where
   open Figures (weights 𝓛) using (Figure as Weight, _⊕_)
 
   infixl 60 _⊕_
-  -- A junction of H on the way
+  -- A junction of H on the way (SCOPE 7.3)
   pub record Meets {s t : ℕ} (w : Walk 𝓝 s t) : Type 0 where
     pub at : ℕ
     pub inside : H at
@@ -22,7 +22,7 @@ module _ {𝓛 : Figures} (𝓝 : Network 𝓛) (H : ℕ → Type 0) where
   abbrev pub IsCut : ℕ → ℕ → Type 0
   IsCut s t = (w : Walk 𝓝 s t) → Meets w
 
-  -- [FHL], theorem 2: p is the sum of a skyline weight to a junction of H and one from there
+  -- Concatenation at a cut (SCOPE 2.5; [FHL], theorem 2): p is the sum of a skyline weight to a junction of H and one from there
   pub record SkylineSum (s t : ℕ) (p : Weight) : Type 0 where
     pub at : ℕ
     pub inside : H at
@@ -32,7 +32,7 @@ module _ {𝓛 : Figures} (𝓝 : Network 𝓛) (H : ℕ → Type 0) where
     pub second-skyline : Skyline 𝓝 at t second
     pub adds : first ⊕ second ≡ p
 
-  -- Two answered legs: a junction of the set, and the limit cut into two whole parts
+  -- Two answered legs (SCOPE 7.3): a junction of the set, and the limit cut into two whole parts
   pub record Legs (s t : ℕ) (limit : 𝓛 .Figure) (p : Weight) : Type 0 where
     pub at : ℕ
     pub inside : H at
@@ -45,7 +45,7 @@ module _ {𝓛 : Figures} (𝓝 : Network 𝓛) (H : ℕ → Type 0) where
     pub second-leg : Best 𝓝 at t second-limit second
     pub adds : first ⊕ second ≡ p
 
-  -- The best total of two answered legs, over every junction of the set and every cut of the limit
+  -- The best total of two answered legs (SCOPE 7.3), over every junction of the set and every cut of the limit
   pub record BestLegs (s t : ℕ) (limit : 𝓛 .Figure) (p : Weight) : Type 0 where
     pub legs : Legs s t limit p
     pub least : (q : Weight) → Legs s t limit q → NotLater 𝓛 p q

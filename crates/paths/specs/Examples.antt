@@ -8,7 +8,7 @@ use Rattle.paths.specs.TradeOff.{IsTradeOff, IsJoin}
 use Rattle.paths.specs.Answer.{Best, Over, Apart, BestSum, NoSum}
 use Rattle.paths.specs.Route.{FirstRoute}
 
--- A road of the examples: its ends, its time and its energy
+-- A road of the examples (SCOPE 8.1, 8.4): its ends, its time and its energy
 pub record Road : Type 0 where
   pub lower : ℕ
   pub higher : ℕ
@@ -18,7 +18,7 @@ pub record Road : Type 0 where
 abbrev pub road : ℕ → ℕ → ℕ → ℕ → Road
 road x y t e = record { lower = x; higher = y; seconds = t; energy = e }
 
--- The two arcs of each road, with the road's place in the list as record number
+-- The two arcs of each road (SCOPE 3.2: every road is used in both directions), with the road's place in the list as record number
 unfoldable pub bothWays : ℕ → List Road → List (Hop energy)
 bothWays r [] = []
 bothWays r (a ∷ roads) =
@@ -26,23 +26,23 @@ bothWays r (a ∷ roads) =
     ∷ record { from = a .higher; to = a .lower; number = r; weighs = pair (a .seconds) (a .energy) }
     ∷ bothWays (suc r) roads
 
--- An arc that stands in a list and takes time
+-- An arc that stands in a list and takes time (SCOPE 3.2)
 pub record Listed (hops : List (Hop energy)) (x y r : ℕ) (w : weights energy .Figure) : Type 0 where
   pub stands : List·Memᴰ (record { from = x; to = y; number = r; weighs = w }) hops
   pub slow : 1 ≤ time energy w
 
--- The network of a list of two-way roads
+-- The network of a list of two-way roads (SCOPE 8.1, 8.4)
 unfoldable pub networkOf : List Road → Network energy
 networkOf roads = record { Arc = Listed (bothWays 0 roads); takes-time = λ a. a .slow }
 
--- Network A
+-- Network A (SCOPE 8.1)
 abbrev pub roadsA : List Road
 roadsA = road 0 1 2 5 ∷ road 0 2 5 2 ∷ road 1 2 1 1 ∷ road 1 3 2 4 ∷ road 2 3 4 1 ∷ road 3 4 3 3 ∷ []
 
 abbrev pub A : Network energy
 A = networkOf roadsA
 
--- The square
+-- The square (SCOPE 8.4)
 abbrev pub roadsSquare : List Road
 roadsSquare = road 0 1 1 1 ∷ road 0 2 1 1 ∷ road 1 3 1 1 ∷ road 2 3 1 1 ∷ []
 

@@ -6,7 +6,7 @@ use mathlib.Core.Path.{_≡_}
 use mathlib.Core.Logic.{_⊎_}
 use Prim.Native.Nat.{ℕ, _+_, _≤_, _<_}
 
--- A kind of figure: its sum, its nothing, and two orders
+-- A kind of figure (SCOPE 1.3): its sum, its nothing, and two orders
 pub record Figures : Type 1 where
   infixl 60 _⊕_
   infix 40 _⊑_
@@ -19,15 +19,16 @@ pub record Figures : Type 1 where
   -- stands earlier in a list
   pub _≺_ : Figure → Figure → Type 0
 
--- One number: energy, tolls or seconds
+-- One number (SCOPE 1.3): energy, tolls or seconds
 abbrev pub number : Figures
 number = record { Figure = ℕ; _⊕_ = _+_; 𝟘 = 0; _⊑_ = _≤_; _≺_ = _<_ }
 
+-- Two figures at once (SCOPE 2.1)
 pub record Both (A B : Type 0) : Type 0 where
   pub first : A
   pub second : B
 
--- In the order of the first figure, equal ones by the second
+-- In the order of the first figure, equal ones by the second (SCOPE 2.3)
 pub data FirstThenSecond (𝓐 𝓑 : Figures) (p q : Both (𝓐 .Figure) (𝓑 .Figure)) : Type 0 where
   by-first : 𝓐 ._≺_ (p .first) (q .first) → FirstThenSecond 𝓐 𝓑 p q
   by-second : p .first ≡ q .first → 𝓑 ._≺_ (p .second) (q .second) → FirstThenSecond 𝓐 𝓑 p q
@@ -50,7 +51,7 @@ module _ (𝓕 : Figures) where
   infixl 60 _⊕_
   infix 40 _⊑_
   infix 40 _≺_
-  -- The laws that the theory rests on. Nothing asks that a figure is positive.
+  -- The laws of sums and orders that SCOPE 2 takes for granted, and the theory rests on. Nothing asks that a figure is positive.
   pub record Lawful : Type 0 where
     pub ⊕-assoc : (a b c : Figure) → (a ⊕ b) ⊕ c ≡ a ⊕ (b ⊕ c)
     pub ⊕-comm : (a b : Figure) → a ⊕ b ≡ b ⊕ a

@@ -9,7 +9,7 @@ use Rattle.paths.specs.Network.{Network, Walk, weight}
 module _ {𝓛 : Figures} (𝓝 : Network 𝓛) where
   open Figures (weights 𝓛) using (Figure as Weight)
 
-  -- An unbeaten weight: a path has it, and no path's weight beats it
+  -- An unbeaten weight (SCOPE 2.3): a path has it, and no path's weight beats it
   pub record Skyline (s t : ℕ) (p : Weight) : Type 0 where
     pub walk : Walk 𝓝 s t
     pub weighs : weight walk ≡ p
@@ -25,7 +25,7 @@ module _ (𝓛 : Figures) where
   open Figures (weights 𝓛) using (Figure as Weight, _⊕_)
 
   infixl 60 _⊕_
-  -- A sum of an entry of k and an entry of l
+  -- A sum of an entry of k and an entry of l (SCOPE 2.6)
   pub record IsSum (k l : List Weight) (p : Weight) : Type 0 where
     pub left : Weight
     pub right : Weight
@@ -33,6 +33,7 @@ module _ (𝓛 : Figures) where
     pub in-second : List·Memᴰ right l
     pub adds : left ⊕ right ≡ p
 
+  -- One that no such sum beats (SCOPE 2.6)
   pub record UnbeatenSum (k l : List Weight) (p : Weight) : Type 0 where
     pub sum : IsSum k l p
     pub unbeaten : (q : Weight) → IsSum k l q → Beats 𝓛 q p → ⊥
@@ -43,7 +44,7 @@ module _ (𝓛 : Figures) where
     pub real : {p : Weight} → List·Memᴰ p r → UnbeatenSum k l p
     pub complete : {p : Weight} → UnbeatenSum k l p → List·Memᴰ p r
 
--- With energy as the one limited figure, energy rises and time falls: the order in which files and calls hold a list. `proofs/OneLimit.antt` shows that trade-off lists and joins have it.
+-- With energy as the one limited figure (SCOPE 2.3), energy rises and time falls: the order in which files and calls hold a list. `proofs/OneLimit.antt` shows that trade-off lists and joins have it.
 pub data Ordered : List (weights energy .Figure) → Type 0 where
   none : Ordered []
   one : {p : weights energy .Figure} → Ordered (p ∷ [])

@@ -1,4 +1,4 @@
--- `lists::within::within` is right: every entry before the count is within the limit; the first that is not, or the end, stops it.
+-- Every entry before the count is within the limit; the first that is not, or the end, stops it.
 use Rattle.lists.proofs.Leading.{Passed, passed-more, passed-stops}
 use native.Mathlib.Omega.{arith}
 use lib.ListN.{length}
@@ -16,8 +16,8 @@ abbrev μ-loop : tie.MeasureT-loop
 loop-holds : tie.Need-loop-holds Inv-loop μ-loop
 loop-holds c = search needs
 
-mul-t4 : tie.Need-mul-t4 Inv-loop μ-loop
-mul-t4 c = search needs
+mul-t5 : tie.Need-mul-t5 Inv-loop μ-loop
+mul-t5 c = search needs
 
 shared-slice-read-t8 : tie.Need-shared-slice-read-t8 Inv-loop μ-loop
 shared-slice-read-t8 c = search needs
@@ -47,7 +47,7 @@ within-spec =
     Inv-loop
     μ-loop
     loop-holds
-    mul-t4
+    mul-t5
     shared-slice-read-t8
     below-requires
     returns
