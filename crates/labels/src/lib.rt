@@ -70,22 +70,11 @@ pub fn route(
 {
     let mut depths: [u32; 1024] = [0; 1024];
     let mut tables: [u32; 13312] = [0; 13312];
-    let mut marks: [u8; 1024] = [0; 1024];
     let number = accept(net, labels, &mut depths, &mut tables);
     if number != 0 {
         return RouteAnswer::NotAccepted(number);
     }
-    answer_route(
-        net,
-        labels,
-        &depths,
-        &tables,
-        s,
-        t,
-        limit,
-        junctions,
-        &mut marks,
-    )
+    answer_route(net, labels, &depths, &tables, s, t, limit, junctions)
 }
 
 // Trade-off list: every pair of s and t that no path's pair beats, energy rising, into the first places of two lent slices; how many,
