@@ -32,7 +32,7 @@ empty-apart {net} {s} {t} counted none walk =
     omega (arith, counted (z .list) (z .is-tradeOff), some-entry (walk-covered number-lawful (z .is-tradeOff) walk .member))
 
 -- the labels' map is the network's
-on-net : {net labels depths starts : List ℕ} {v : ℕ} → Prepared net labels depths starts → v < junctionsOf labels → v < junctionsOf net
+on-net : {net labels depths tables : List ℕ} {v : ℕ} → Prepared net labels depths tables → v < junctionsOf labels → v < junctionsOf net
 on-net prepared h = omega (arith, prepared .beside .one-map)
 
 -- nothing is counted and nothing written
@@ -46,7 +46,7 @@ module _ {net : List ℕ} {s t : ℕ} {times energies : List ℕ} where
   pub finish-off-map : {n : ℕ} → Read16 (junctionsOf net) n → n ≤ t → ListAnswered net s t times energies 21 0 times energies
   finish-off-map read h = off-map (inr (omega (arith, read .is))) unchanged
 
-  module _ {labels depths starts : List ℕ} (prepared : Prepared net labels depths starts) (s-on-map : s < junctionsOf labels) (t-on-map : t < junctionsOf labels)
+  module _ {labels depths tables : List ℕ} (prepared : Prepared net labels depths tables) (s-on-map : s < junctionsOf labels) (t-on-map : t < junctionsOf labels)
       {count : ℕ} (counted : (l : List Weight) → IsTradeOff (networkOf net) s t l → count ≡ length l) where
     pub list-apart : count ≡ 0 → ListAnswered net s t times energies 22 0 times energies
     list-apart none = not-connected (on-net prepared s-on-map) (on-net prepared t-on-map) (empty-apart counted none) unchanged

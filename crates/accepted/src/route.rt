@@ -9,7 +9,6 @@ use routes::route::route;
 ghost use mathlib.Core.Path.{_≡_};
 ghost use mathlib.Core.Bool.{false};
 ghost use Prim.Native.Nat.{_<_};
-ghost use lib.ListN.{length};
 ghost use Rattle.paths.specs.Weights.{pair};
 ghost use Rattle.paths.specs.TradeOff.{Skyline};
 ghost use Rattle.network.specs.NetworkFile.{networkOf, junctionsOf};
@@ -31,19 +30,18 @@ fn put_route(
     time: Seconds,
     energy: Energy,
     junctions: &mut [u32],
-    marks: &mut [u8; 1024],
 ) -> RouteAnswer
     requires { ⌜ Prepared (now net) (now labels) (now depths) (now tables) ⌝ }
     requires { ⌜ Grouped (now net) (now tables) ⌝ }
     requires { ⌜ (s < junctionsOf (now net)) × (t < junctionsOf (now net)) ⌝ }
     requires { ⌜ Skyline (networkOf (now net)) s t (pair (time .0) (energy .0)) ⌝ }
-    requires { ⌜ length (now marks) ≡ 1024 ⌝ }
     ensures { λ r.
         ⌜ RoutePut (now (net .entry)) s t (time .0) (energy .0) (now (junctions .entry))
         (routeNumberOf r) (routeTimeOf r) (routeEnergyOf r) (routeCountOf r) (now (junctions .exit)) ⌝ }
     ensures { λ r. ⌜ routeFromCheck r ≡ false ⌝ }
 {
     let mut places: [u32; 1024] = [0; 1024];
+    let mut marks: [u8; 1024] = [0; 1024];
     let count = route(
         net,
         labels,
@@ -54,7 +52,7 @@ fn put_route(
         time,
         energy,
         &mut places,
-        marks,
+        &mut marks,
     );
     if count > junctions.len() {
         return RouteAnswer::NoRoom;
@@ -73,11 +71,9 @@ pub fn answer_route(
     t: u32,
     limit: u32,
     junctions: &mut [u32],
-    marks: &mut [u8; 1024],
 ) -> RouteAnswer
     requires { ⌜ Prepared (now net) (now labels) (now depths) (now tables) ⌝ }
     requires { ⌜ Grouped (now net) (now tables) ⌝ }
-    requires { ⌜ length (now marks) ≡ 1024 ⌝ }
     ensures { λ r.
         ⌜ RouteAnswered (now (net .entry)) s t limit (now (junctions .entry))
         (routeNumberOf r) (routeTimeOf r) (routeEnergyOf r) (routeCountOf r) (now (junctions .exit)) ⌝ }
@@ -95,7 +91,6 @@ pub fn answer_route(
             time,
             energy,
             junctions,
-            marks,
         ),
         Answer::OffMap => RouteAnswer::OffMap,
         Answer::NotConnected => RouteAnswer::NotConnected,

@@ -1,12 +1,16 @@
 -- The ways through the calls: misshapen or refused by the check, else what an accepted set answers.
--- In this order: the shape of a batch; Batch; which case an answer is; Route and Trade-off list.
+-- In this order: the shape of a batch; Batch; which case an answer is; Route and Trade-off list; Show's part.
 use mathlib.Core.Path.{_≡_, refl, sym, _∙_}
 use mathlib.Core.Bool.{false, false≢true}
 use mathlib.Core.List.{List}
-use Prim.Native.Nat.{ℕ, _/_, _%_, _≤_, _<_}
+use Prim.Native.Nat.{ℕ, _-_, _/_, _%_, _≤_, _<_}
 use native.Mathlib.Omega.{arith}
 use lib.ListN.{length}
 use borrow.Author.Tests.{eq-eqb, ne-eqb, le-leb, lt-leb}
+use Rattle.stored.specs.Stored.{listPlace}
+use Rattle.stored.proofs.Places.{list-takes}
+use Rattle.files.specs.working.Span.{Spans, SpanFound}
+use Rattle.files.proofs.ShowLaws.{span-shown}
 use Rattle.accepted.specs.declared.RouteAnswer.{RouteAnswer}
 use Rattle.accepted.specs.declared.RouteAnswer.the-variants as route
 use Rattle.accepted.specs.declared.ListAnswer.{ListAnswer}
@@ -24,6 +28,7 @@ use Rattle.accepted.proofs.CheckNumbers.{check-refused}
 use Rattle.labels.specs.Batch.{shapeNumber, BatchDone, misshapen, not-accepted, answered}
 use Rattle.labels.specs.Route.{Routed, RouteDone}
 use Rattle.labels.specs.List.{Listed, ListDone}
+use Rattle.labels.specs.Part.{PartShown}
 
 -- ---- The shape of a batch
 
@@ -132,3 +137,20 @@ module _ {net labels depths tables : List ℕ} {number : ℕ} (accepting : Accep
   list-answered {answer = answer} none gives own =
       let passed = check-passed accepting none in
       record { gives = Listed.answered passed gives; case-is = list-case passed answer own }
+
+-- ---- Show's part
+
+-- a span as a place and a length: where some byte is shown the place is the list's, else it is 0
+pub part-shown :
+    {labels : List ℕ} {v u start end : ℕ} → SpanFound labels v u start end → PartShown labels v u start (end - start)
+part-shown {labels} {v} {u} {start} {end} found =
+    record {
+      shown = span-shown found refl;
+      inside = omega (arith, found .rises, found .inside);
+      place = λ some. pick (found .spans) .0 some;
+      empty = λ none-shown. pick (found .spans) .1 none-shown;
+    }
+  where
+    pick : Spans labels v u start end → (1 ≤ end - start → start ≡ listPlace labels v u) × (end - start ≡ 0 → start ≡ 0)
+    pick (Spans.none h from to) = ((λ some. absurd (omega arith)), λ z. from)
+    pick (Spans.list h from to) = ((λ some. from), λ z. absurd (omega (arith, list-takes labels (listPlace labels v u))))

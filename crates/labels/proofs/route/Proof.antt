@@ -13,10 +13,10 @@ returns c = search (route-not-accepted)
 
 answer-route-requires : tie.Need-answer-route-requires
 answer-route-requires c κs =
-    let passed = c .before .before .before .before in
+    let passed = c .before .before .before in
     let accepting = passed .before .accept .ensures in
     let none = passed .if1 .left in
-    (ready-for-queries accepting none, (accepting .filled none .grouped, search needs))
+    (ready-for-queries accepting none, accepting .filled none .grouped)
 
 same-length : tie.Need-same-length
 same-length c = search needs

@@ -13,10 +13,10 @@ enum-known-found c = search needs
 
 put-route-requires : tie.Need-put-route-requires
 put-route-requires c κs =
-    let asked = c .before .before .before .before .before in
+    let asked = c .before .before .before .before in
     let pre = asked .before .before .before .before .pre in
-    let pair-found = answered-zero (found-zero (c .before .before .before .found .given .1) (asked .answer .ensures)) in
-    (pre .0, (pre .1 .0, ((pair-found .start-on-map, pair-found .finish-on-map), (found-skyline pair-found, pre .1 .1))))
+    let pair-found = answered-zero (found-zero (c .before .before .found .given .1) (asked .answer .ensures)) in
+    (pre .0, (pre .1, ((pair-found .start-on-map, pair-found .finish-on-map), found-skyline pair-found)))
 
 enum-told : tie.Need-enum-told
 enum-told c = search needs
