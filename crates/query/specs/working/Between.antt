@@ -2,10 +2,10 @@
 use mathlib.Core.Path.{_≡_}
 use mathlib.Core.Logic.{_⊎_}
 use mathlib.Core.List.{List}
-use Prim.Native.Nat.{ℕ, suc, _+_, _-_, _≤_, _<_}
+use Prim.Native.Nat.{ℕ, suc, _+_, _-_, _*_, _≤_, _<_}
 use Rattle.paths.specs.Forest.{Above, Common}
 use Rattle.network.specs.NetworkFile.{junctionsOf}
-use Rattle.forest.specs.LabelFile.{parentAt, parentsOf, listEnd}
+use Rattle.forest.specs.LabelFile.{parentAt, parentsOf, countAt, listEnd}
 use Rattle.forest.specs.Forest.{depthOf}
 use Rattle.forest.specs.working.ParentsRead.{AncestorRead}
 use Rattle.preorder.specs.working.Numbered.{spotOf, sizeOf}
@@ -15,6 +15,11 @@ use Rattle.query.specs.declared.Between.{Between}
 use Rattle.query.specs.declared.Between.the-variants.{Nothing, List as OneList, Lists as TwoLists}
 use Rattle.query.specs.declared.climbing.Climb.{Climb}
 use Rattle.query.specs.working.Levels.{behind}
+
+-- The product of the counts at two bytes, each below 65536
+pub record CountsProduct (labels : List ℕ) (one other r : ℕ) : Type 0 where
+  pub is : r ≡ countAt labels one * countAt labels other
+  pub small : r ≤ 4294836225
 
 -- How many spots v stands behind u; more than any block has where it stands before
 pub record BehindBy (tables : List ℕ) (u v r : ℕ) : Type 0 where
