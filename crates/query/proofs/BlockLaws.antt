@@ -15,21 +15,21 @@ use Rattle.forest.specs.Forest.{depthOf}
 use Rattle.forest.proofs.Forest.{above-shallower}
 use Rattle.preorder.specs.working.Numbered.{spotOf, sizeOf, Numbered}
 use Rattle.stored.specs.working.Formed.{Formed}
-use Rattle.query.specs.working.Between.{BehindBy, InBlock}
+use Rattle.query.specs.working.Blocks.{farSpots, BehindBy, InBlock}
 use Rattle.query.proofs.WholeAnswers.{proper}
 
 -- ---- The test
 
 module _ {tables : List ℕ} {u v : ℕ} where
   module _ {start spot : ℕ} (start-is : start ≡ spotOf tables u) (spot-is : spot ≡ spotOf tables v) where
-    pub stands-before : spot < start → BehindBy tables u v 1024
+    pub stands-before : spot < start → BehindBy tables u v farSpots
     stands-before h = record { behind = λ g. absurd (omega arith); before = λ g. refl }
 
     pub stands-behind : start ≤ spot → BehindBy tables u v (spot - start)
     stands-behind h = record { behind = λ g. omega arith; before = λ g. absurd (omega arith) }
 
   pub block-tested :
-      {gap size : ℕ} → BehindBy tables u v gap → size ≡ sizeOf tables u → sizeOf tables u ≤ 1024 → Decides (InBlock tables u v) (ltb gap size)
+      {gap size : ℕ} → BehindBy tables u v gap → size ≡ sizeOf tables u → sizeOf tables u ≤ farSpots → Decides (InBlock tables u v) (ltb gap size)
   block-tested {gap} {size} by size-is few =
       record {
         holds = λ e. inside e (decLe (spotOf tables u) (spotOf tables v));
@@ -54,7 +54,7 @@ module _ {labels tables : List ℕ} (numbered : Numbered labels tables) {u v : �
 
 -- ---- How many it has
 
-pub block-small : {labels tables : List ℕ} {u : ℕ} → Formed labels → Numbered labels tables → u < junctionsOf labels → sizeOf tables u ≤ 1024
+pub block-small : {labels tables : List ℕ} {u : ℕ} → Formed labels → Numbered labels tables → u < junctionsOf labels → sizeOf tables u ≤ farSpots
 block-small {u = u} formed numbered on-map = omega (arith, numbered .block-inside u on-map, formed .parents .few-junctions)
 
 -- ---- Depths

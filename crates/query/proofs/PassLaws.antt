@@ -9,17 +9,17 @@ use Rattle.bytes.specs.working.Reads.{Read16}
 use Rattle.forest.specs.LabelFile.{countAt, listEnd}
 use Rattle.stored.specs.working.Scanned.{further}
 use Rattle.stored.proofs.Places.{further-add, further-later, Moved, moved-none, moved-more, moved-all}
-use Rattle.query.specs.working.Between.{CountsProduct}
+use Rattle.query.specs.working.Passing.{singleBytes, CountsProduct}
 
 -- ---- Products
 
 -- a product of two numbers below 65536
-pub product-small : (a b : ℕ) → a < 65536 → b < 65536 → a * b ≤ 4294836225
+pub product-small : (a b : ℕ) → a < 65536 → b < 65536 → a * b ≤ 65535 * 65535
 product-small a b h k = omega (arith, mul-le-mul-right {m = a} {n = 65535} b (omega arith))
 
 -- and of two such products
-pub product-fits : (a b : ℕ) → a ≤ 4294836225 → b ≤ 4294836225 → a * b < 18446744073709551616
-product-fits a b h k = omega (arith, mul-le-mul-right {m = a} {n = 4294836225} b h)
+pub product-fits : (a b : ℕ) → a ≤ 65535 * 65535 → b ≤ 65535 * 65535 → a * b < 18446744073709551616
+product-fits a b h k = omega (arith, mul-le-mul-right {m = a} {n = 65535 * 65535} b h)
 
 -- a product is 1 only where both are
 pub product-one : (a b : ℕ) → a * b ≡ 1 → (a ≡ 1) × (b ≡ 1)
@@ -36,19 +36,19 @@ counts-product one other {a} {b} first second = record { is = ap₂ _*_ (first .
 -- ---- Lists of one entry
 
 -- it ends behind that entry
-single-end : (labels : List ℕ) (here : ℕ) → countAt labels here ≡ 1 → here + 10 ≡ listEnd labels here
+single-end : (labels : List ℕ) (here : ℕ) → countAt labels here ≡ 1 → here + singleBytes ≡ listEnd labels here
 unfolding listEnd
 single-end labels here one = omega arith
 
 -- one such list more
 single-more :
-    {labels : List ℕ} {at k i here : ℕ} → Moved labels at k i here → i < k → countAt labels here ≡ 1 → Moved labels at k (i + 1) (here + 10)
+    {labels : List ℕ} {at k i here : ℕ} → Moved labels at k i here → i < k → countAt labels here ≡ 1 → Moved labels at k (i + 1) (here + singleBytes)
 single-more {labels} {here = here} moved h one = moved-more labels moved h (single-end labels here one)
 
 -- four of them
 four-singles :
-    (labels : List ℕ) (at : ℕ) → countAt labels at ≡ 1 → countAt labels (at + 10) ≡ 1 → countAt labels (at + 20) ≡ 1 → countAt labels (at + 30) ≡ 1 →
-    further labels at 4 ≡ at + 40
+    (labels : List ℕ) (at : ℕ) → countAt labels at ≡ 1 → countAt labels (at + singleBytes) ≡ 1 → countAt labels (at + 2 * singleBytes) ≡ 1 → countAt labels (at + 3 * singleBytes) ≡ 1 →
+    further labels at 4 ≡ at + 4 * singleBytes
 four-singles labels at one two three four = sym (moved-all labels all (omega arith))
   where
     first : Moved labels at 4 1 (at + 10)
@@ -66,7 +66,7 @@ four-singles labels at one two three four = sym (moved-all labels all (omega ari
 module _ {labels : List ℕ} where
   -- told by the products of their counts
   pub products-tell :
-      {at p q : ℕ} → CountsProduct labels at (at + 10) p → CountsProduct labels (at + 20) (at + 30) q → p * q ≡ 1 → further labels at 4 ≡ at + 40
+      {at p q : ℕ} → CountsProduct labels at (at + singleBytes) p → CountsProduct labels (at + 2 * singleBytes) (at + 3 * singleBytes) q → p * q ≡ 1 → further labels at 4 ≡ at + 4 * singleBytes
   products-tell {at} {p} {q} one two e =
       let both = product-one p q e in
       let near = product-one _ _ (sym (one .is) ∙ both .0) in

@@ -17,7 +17,7 @@ ghost use Rattle.forest.specs.working.Fits.{DepthsFilled};
 ghost use Rattle.preorder.specs.working.Numbered.{sizeOf};
 ghost use Rattle.stored.specs.working.Formed.{Formed, StartsFilled};
 ghost use Rattle.stored.specs.working.Scanned.{FoundList};
-ghost use Rattle.query.specs.working.Between.{BehindBy, InBlock};
+ghost use Rattle.query.specs.working.Blocks.{farSpots, BehindBy, InBlock};
 
 // More spots than any block has.
 const FAR: usize = 1024;
@@ -40,7 +40,7 @@ fn behind_by(tables: &[u32; 13312], u: usize, v: usize) -> usize
 pub fn in_block(tables: &[u32; 13312], u: usize, v: usize) -> bool
     requires { ⌜ length (now tables) ≡ tablePlaces ⌝ }
     requires { ⌜ (u < 1024) × (v < 1024) ⌝ }
-    requires { ⌜ sizeOf (now tables) u ≤ 1024 ⌝ }
+    requires { ⌜ sizeOf (now tables) u ≤ farSpots ⌝ }
     ensures { λ r. ⌜ Decides (InBlock (now (tables .entry)) u v) r ⌝ }
 {
     behind_by(tables, u, v) < entry_at(tables, SIZES + u)

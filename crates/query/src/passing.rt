@@ -4,12 +4,12 @@ use stored::place::skip;
 use stored::stored::count_at;
 ghost use mathlib.Core.Path.{_≡_};
 ghost use mathlib.Core.Bool.{true};
-ghost use Prim.Native.Nat.{_+_, _≤_};
+ghost use Prim.Native.Nat.{_+_, _*_, _≤_};
 ghost use lib.ListN.{length};
 ghost use Rattle.forest.specs.LabelFile.{countEnd};
 ghost use Rattle.stored.specs.ListForm.{mostBytes};
 ghost use Rattle.stored.specs.working.Scanned.{further};
-ghost use Rattle.query.specs.working.Between.{CountsProduct};
+ghost use Rattle.query.specs.working.Passing.{singleBytes, CountsProduct};
 
 // A list of one entry: a count and the entry.
 const SINGLE_BYTES: usize = 10;
@@ -30,9 +30,9 @@ fn product_at(labels: &[u8], one: usize, other: usize) -> usize
 // Whether the next four lists have one entry each. A product has one branch for all four, which the processor guesses, so that the
 // next counts are read before these are known.
 fn four_single(labels: &[u8], at: usize) -> bool
-    requires { ⌜ at + 40 ≤ length (now labels) ⌝ }
+    requires { ⌜ at + 4 * singleBytes ≤ length (now labels) ⌝ }
     requires { ⌜ length (now labels) ≤ mostBytes ⌝ }
-    ensures { λ r. ⌜ (r ≡ true → further (now (labels .entry)) at 4 ≡ at + 40) ⌝ }
+    ensures { λ r. ⌜ (r ≡ true → further (now (labels .entry)) at 4 ≡ at + 4 * singleBytes) ⌝ }
 {
     let first = product_at(labels, at, at + SINGLE_BYTES);
     let second = product_at(labels, at + 2 * SINGLE_BYTES, at + 3 * SINGLE_BYTES);

@@ -2,34 +2,18 @@
 use mathlib.Core.Path.{_≡_}
 use mathlib.Core.Logic.{_⊎_}
 use mathlib.Core.List.{List}
-use Prim.Native.Nat.{ℕ, suc, _+_, _-_, _*_, _≤_, _<_}
+use Prim.Native.Nat.{ℕ, suc, _-_, _≤_, _<_}
 use Rattle.paths.specs.Forest.{Above, Common}
 use Rattle.network.specs.NetworkFile.{junctionsOf}
-use Rattle.forest.specs.LabelFile.{parentAt, parentsOf, countAt, listEnd}
+use Rattle.forest.specs.LabelFile.{parentAt, parentsOf, listEnd}
 use Rattle.forest.specs.Forest.{depthOf}
 use Rattle.forest.specs.working.ParentsRead.{AncestorRead}
-use Rattle.preorder.specs.working.Numbered.{spotOf, sizeOf}
 use Rattle.stored.specs.Stored.{listPlace}
 use Rattle.hoplinks.specs.working.Meeting.{MeetsAt}
 use Rattle.query.specs.declared.Between.{Between}
 use Rattle.query.specs.declared.Between.the-variants.{Nothing, List as OneList, Lists as TwoLists}
 use Rattle.query.specs.declared.climbing.Climb.{Climb}
 use Rattle.query.specs.working.Levels.{behind}
-
--- The product of the counts at two bytes, each below 65536
-pub record CountsProduct (labels : List ℕ) (one other r : ℕ) : Type 0 where
-  pub is : r ≡ countAt labels one * countAt labels other
-  pub small : r ≤ 4294836225
-
--- How many spots v stands behind u; more than any block has where it stands before
-pub record BehindBy (tables : List ℕ) (u v r : ℕ) : Type 0 where
-  pub behind : spotOf tables u ≤ spotOf tables v → r ≡ spotOf tables v - spotOf tables u
-  pub before : spotOf tables v < spotOf tables u → r ≡ 1024
-
--- v stands in the block of u: it is u or a descendant of u
-pub record InBlock (tables : List ℕ) (u v : ℕ) : Type 0 where
-  pub not-before : spotOf tables u ≤ spotOf tables v
-  pub not-behind : spotOf tables v < spotOf tables u + sizeOf tables u
 
 -- The climb of v is at its ancestor of depth `level` and at the byte of its list for that one's parent
 pub record Climbs (labels : List ℕ) (v level : ℕ) (climb : Climb) : Type 0 where
