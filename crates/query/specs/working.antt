@@ -3,5 +3,7 @@ pub mod Prepared
 pub mod AnswerValues
 pub mod AnswerFrom
 pub mod Levels
+pub mod Passing
+pub mod Blocks
 pub mod Between
 pub mod Sums

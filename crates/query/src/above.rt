@@ -7,29 +7,43 @@ use tables::SPOTS;
 use tables::STARTS;
 use tables::entry_at;
 ghost use mathlib.Core.Path.{_≡_};
-ghost use Prim.Native.Nat.{_<_};
+ghost use Prim.Native.Nat.{_≤_, _<_};
 ghost use lib.ListN.{length};
 ghost use Rattle.refusals.specs.working.Decides.{Decides};
 ghost use Rattle.tables.specs.working.Layout.{tablePlaces};
 ghost use Rattle.network.specs.NetworkFile.{junctionsOf};
 ghost use Rattle.forest.specs.Forest.{depthOf};
 ghost use Rattle.forest.specs.working.Fits.{DepthsFilled};
+ghost use Rattle.preorder.specs.working.Numbered.{sizeOf};
 ghost use Rattle.stored.specs.working.Formed.{Formed, StartsFilled};
 ghost use Rattle.stored.specs.working.Scanned.{FoundList};
-ghost use Rattle.query.specs.working.Between.{InBlock};
+ghost use Rattle.query.specs.working.Blocks.{farSpots, BehindBy, InBlock};
+
+// More spots than any block has.
+const FAR: usize = 1024;
+
+// How many spots v stands behind u; FAR where it stands before.
+fn behind_by(tables: &[u32; 13312], u: usize, v: usize) -> usize
+    requires { ⌜ length (now tables) ≡ tablePlaces ⌝ }
+    requires { ⌜ (u < 1024) × (v < 1024) ⌝ }
+    ensures { λ r. ⌜ BehindBy (now (tables .entry)) u v r ⌝ }
+{
+    let start = entry_at(tables, SPOTS + u);
+    let spot = entry_at(tables, SPOTS + v);
+    if spot < start {
+        return FAR;
+    }
+    spot - start
+}
 
 // Whether v stands in the block of u.
 pub fn in_block(tables: &[u32; 13312], u: usize, v: usize) -> bool
     requires { ⌜ length (now tables) ≡ tablePlaces ⌝ }
     requires { ⌜ (u < 1024) × (v < 1024) ⌝ }
+    requires { ⌜ sizeOf (now tables) u ≤ farSpots ⌝ }
     ensures { λ r. ⌜ Decides (InBlock (now (tables .entry)) u v) r ⌝ }
 {
-    let start = entry_at(tables, SPOTS + u);
-    let spot = entry_at(tables, SPOTS + v);
-    if spot < start {
-        return false;
-    }
-    spot - start < entry_at(tables, SIZES + u)
+    behind_by(tables, u, v) < entry_at(tables, SIZES + u)
 }
 
 // The byte of v's list for u, which stands above it: as many lists behind v's first as there are junctions between.

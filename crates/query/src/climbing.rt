@@ -15,7 +15,7 @@ ghost use Rattle.forest.specs.working.Fits.{DepthsFilled};
 ghost use Rattle.preorder.specs.working.Numbered.{Numbered};
 ghost use Rattle.stored.specs.ListForm.{mostBytes};
 ghost use Rattle.stored.specs.working.Formed.{Formed, StartsFilled};
-ghost use Rattle.query.specs.working.Between.{Climbs, Steps, Abreast, Beside, Leads};
+ghost use Rattle.query.specs.working.Between.{Climbs, Steps, Abreast, Leads};
 
 // The climb of a junction: an ancestor of it, at first the junction itself, and the byte of its list for that one's parent.
 pub struct Climb {
@@ -81,29 +81,8 @@ fn meet(labels: &[u8], depth: u32, near: Climb, far: Climb) -> Between
     Between::Nothing
 }
 
-// The lists of x and y, of which neither stands above the other: the deeper climbs to the other's depth, and both climb on from there.
-fn beside(labels: &[u8], depths: &[u32; 1024], tables: &[u32; 13312], x: usize, y: usize) -> Between
-    requires { ⌜ Formed (now labels) × DepthsFilled (now labels) (now depths) × StartsFilled (now labels) (now tables) ⌝ }
-    requires { ⌜ (x < junctionsOf (now labels)) × (y < junctionsOf (now labels)) ⌝ }
-    requires { ⌜ Beside (now labels) x y ⌝ }
-    ensures { λ r. ⌜ Leads (now (labels .entry)) x y r ⌝ }
-{
-    let depth_x = depths[x];
-    let depth_y = depths[y];
-    if depth_y < depth_x {
-        let near = climb_of(labels, tables, x, depth_x - depth_y);
-        return meet(labels, depth_y, near, climb_of(labels, tables, y, 0));
-    }
-    let near = climb_of(labels, tables, x, 0);
-    meet(
-        labels,
-        depth_x,
-        near,
-        climb_of(labels, tables, y, depth_y - depth_x),
-    )
-}
-
-// The lists that tell of the paths between x and y, two junctions.
+// The lists that tell of the paths between x and y, two junctions. The higher may stand above the other, which its block tells; if not,
+// the deeper climbs to the other's depth, and both climb on from there.
 pub fn between(
     labels: &[u8],
     depths: &[u32; 1024],
@@ -116,11 +95,23 @@ pub fn between(
     requires { ⌜ (x < junctionsOf (now labels)) × (y < junctionsOf (now labels)) × (x ≡ y → ⊥) ⌝ }
     ensures { λ r. ⌜ Leads (now (labels .entry)) x y r ⌝ }
 {
-    if in_block(tables, y, x) {
-        return Between::List(list_above(labels, depths, tables, x, y));
+    let depth_x = depths[x];
+    let depth_y = depths[y];
+    if depth_y < depth_x {
+        if in_block(tables, y, x) {
+            return Between::List(list_above(labels, depths, tables, x, y));
+        }
+        let near = climb_of(labels, tables, x, depth_x - depth_y);
+        return meet(labels, depth_y, near, climb_of(labels, tables, y, 0));
     }
     if in_block(tables, x, y) {
         return Between::List(list_above(labels, depths, tables, y, x));
     }
-    beside(labels, depths, tables, x, y)
+    let near = climb_of(labels, tables, x, 0);
+    meet(
+        labels,
+        depth_x,
+        near,
+        climb_of(labels, tables, y, depth_y - depth_x),
+    )
 }

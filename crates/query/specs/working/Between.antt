@@ -2,24 +2,18 @@
 use mathlib.Core.Path.{_≡_}
 use mathlib.Core.Logic.{_⊎_}
 use mathlib.Core.List.{List}
-use Prim.Native.Nat.{ℕ, suc, _+_, _-_, _≤_, _<_}
-use Rattle.paths.specs.Forest.{Above, Ancestor, Common}
+use Prim.Native.Nat.{ℕ, suc, _-_, _≤_, _<_}
+use Rattle.paths.specs.Forest.{Above, Common}
 use Rattle.network.specs.NetworkFile.{junctionsOf}
 use Rattle.forest.specs.LabelFile.{parentAt, parentsOf, listEnd}
 use Rattle.forest.specs.Forest.{depthOf}
 use Rattle.forest.specs.working.ParentsRead.{AncestorRead}
-use Rattle.preorder.specs.working.Numbered.{spotOf, sizeOf}
 use Rattle.stored.specs.Stored.{listPlace}
 use Rattle.hoplinks.specs.working.Meeting.{MeetsAt}
 use Rattle.query.specs.declared.Between.{Between}
 use Rattle.query.specs.declared.Between.the-variants.{Nothing, List as OneList, Lists as TwoLists}
 use Rattle.query.specs.declared.climbing.Climb.{Climb}
 use Rattle.query.specs.working.Levels.{behind}
-
--- v stands in the block of u: it is u or a descendant of u
-pub record InBlock (tables : List ℕ) (u v : ℕ) : Type 0 where
-  pub not-before : spotOf tables u ≤ spotOf tables v
-  pub not-behind : spotOf tables v < spotOf tables u + sizeOf tables u
 
 -- The climb of v is at its ancestor of depth `level` and at the byte of its list for that one's parent
 pub record Climbs (labels : List ℕ) (v level : ℕ) (climb : Climb) : Type 0 where
@@ -41,11 +35,6 @@ pub record Abreast (labels : List ℕ) (x y level : ℕ) (near far : Climb) : Ty
   pub far-climbs : Climbs labels y level far
   pub apart : near .up ≡ far .up → ⊥
   pub highest : (u : ℕ) → Common (parentsOf labels) x y u → depthOf labels u ≤ level
-
--- Neither of x and y is the other or stands above it
-pub record Beside (labels : List ℕ) (x y : ℕ) : Type 0 where
-  pub not-below : Ancestor (parentsOf labels) y x → ⊥
-  pub not-above : Ancestor (parentsOf labels) x y → ⊥
 
 -- The list at byte `at` is that of one of x and y for the other, which stands above it
 pub record ListBetween (labels : List ℕ) (x y at : ℕ) : Type 0 where

@@ -1,7 +1,7 @@
 -- The lists of v follow each other from the parent upward, so u's stands as many behind the first as there are ancestors between.
-use Prim.Native.Nat.{_<_}
+use Prim.Native.Nat.{_-_, _<_}
 use native.Mathlib.Omega.{arith}
-use Rattle.stored.proofs.Places.{deeper-in-table, way-read, way-inside, way-found}
+use Rattle.stored.proofs.Places.{deeper-in-table, Way, way-read, way-inside, way-found}
 use borrow.Author.Needs.{needs}
 use Rattle.query.proofs.above.list_above.Statement.{statement}
 use Rattle.query.proofs.above.list_above.Tie as tie
@@ -30,17 +30,21 @@ add-entry-at c = search needs
 entry-at-requires : tie.Need-entry-at-requires
 entry-at-requires c κs = search needs
 
+-- how many lists from where on
+way :
+    (c : tie.After-entry-at) →
+    let args = c .before .before .before .before .args in
+    Way (args .labels .now) (args .v) (args .u) (c .entry-at .result) (c .before .before .number-of .result - c .before .number-of2 .result - 1)
+way c =
+    let pre = c .before .before .before .before .pre in
+    way-read (pre .1 .0) (pre .1 .1 .0) (pre .1 .1 .1 .0 .0) (pre .1 .1 .1 .0 .1) (pre .1 .1 .1 .1) (c .before .before .number-of .ensures)
+    (c .before .number-of2 .ensures) (c .entry-at .ensures)
+
 pass-lists-requires : tie.Need-pass-lists-requires
-pass-lists-requires c κs =
-    let pre = c .before .before .before .before .pre in (
-      way-inside (pre .0)
-          (way-read (pre .1 .0) (pre .1 .1 .0) (pre .1 .1 .1 .0 .0) (pre .1 .1 .1 .0 .1) (pre .1 .1 .1 .1)
-          (c .before .before .number-of .ensures) (c .before .number-of2 .ensures) (c .entry-at .ensures)),
-      pre .0 .few-bytes,
-    )
+pass-lists-requires c κs = let pre = c .before .before .before .before .pre in (way-inside (pre .0) (way c), pre .0 .few-bytes)
 
 returns : tie.Need-returns
-returns c = search (way-found, way-read, needs)
+returns c = way-found (way (c .before)) (c .pass-lists .ensures)
 
 pub list-above-spec : {M : Type 1} → statement M
 list-above-spec =

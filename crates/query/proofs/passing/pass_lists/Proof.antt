@@ -13,6 +13,12 @@ Inv-loop labels at lists here₀ done₀ here done = Moved labels at lists done 
 abbrev μ-loop : tie.MeasureT-loop
 μ-loop labels at lists here₀ done₀ here done = lists - done
 
+skip-requires : tie.Need-skip-requires Inv-loop μ-loop
+skip-requires c κs = search needs
+
+returns : tie.Need-returns Inv-loop μ-loop
+returns c = search needs
+
 loop-holds : tie.Need-loop-holds Inv-loop μ-loop
 loop-holds c = moved-none _ _ _
 
@@ -21,7 +27,7 @@ sub-loop c = search needs
 
 four-further-requires : tie.Need-four-further-requires Inv-loop μ-loop
 four-further-requires c κs =
-    let pre = c .before .before .before .pre in
+    let pre = c .before .before .before .before .pre in
     (moved-ahead (c .before .loop .inv) 4 (omega (arith, c .before .loop .inv .few, c .loop-test .taken)) (pre .0), pre .1)
 
 add-done : tie.Need-add-done Inv-loop μ-loop
@@ -38,13 +44,13 @@ loop-again c =
 sub-skip : tie.Need-sub-skip Inv-loop μ-loop
 sub-skip c = search needs
 
-skip-requires : tie.Need-skip-requires Inv-loop μ-loop
-skip-requires c κs =
-    let pre = c .before .before .before .pre in
+skip-requires-2 : tie.Need-skip-requires-2 Inv-loop μ-loop
+skip-requires-2 c κs =
+    let pre = c .before .before .before .before .pre in
     (moved-ahead (c .before .loop .inv) _ (omega (arith, c .before .loop .inv .few)) (pre .0), pre .1)
 
-returns : tie.Need-returns Inv-loop μ-loop
-returns c = moved-rest (c .before .before .loop .inv) (c .skip .ensures)
+returns-2 : tie.Need-returns-2 Inv-loop μ-loop
+returns-2 c = moved-rest (c .before .before .loop .inv) (c .skip2 .ensures)
 
 pub pass-lists-spec : {M : Type 1} → statement M
 pass-lists-spec =
@@ -52,6 +58,8 @@ pass-lists-spec =
     (tie.spec
     Inv-loop
     μ-loop
+    skip-requires
+    returns
     loop-holds
     sub-loop
     four-further-requires
@@ -59,5 +67,5 @@ pass-lists-spec =
     loop-less
     loop-again
     sub-skip
-    skip-requires
-    returns)
+    skip-requires-2
+    returns-2)
