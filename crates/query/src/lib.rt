@@ -11,6 +11,12 @@ pub enum Answer {
     OverLimit,
 }
 
+// A time beside an energy: the pair of a path.
+pub struct Pair {
+    pub time: Seconds,
+    pub energy: Energy,
+}
+
 // The lists that tell of the paths between two junctions: none; that of one junction for the other above it, at a byte; or those of
 // both for their common ancestors, from two bytes on, so many on each side.
 pub enum Between {
