@@ -39,7 +39,7 @@ module _ {net input : List ℕ} {from : ℕ} where
         }
 
     filled : (from < length input → from < next) → FilledTo net input from out next used
-    filled onward = record { replies = held .replies; inside = omega (arith, held .room, held .inside); onward = onward }
+    filled onward = record { replies = held .replies; inside = omega (arith, held .room, held .inside); onward = onward; places = held .room }
 
     -- no line left
     pub filled-all : length input ≤ next → FilledTo net input from out next used

@@ -4,29 +4,25 @@ use mathlib.Core.List.{List}
 use Prim.Native.Nat.{ℕ, _≤_}
 use native.Mathlib.Omega.{arith}
 use lib.ListN.{length}
-use Rattle.bytes.specs.Bytes.{u32At}
 use Rattle.bytes.specs.working.Reads.{Read16}
 use Rattle.network.specs.NetworkFile.{junctionsOf, roadsOf}
+use Rattle.forest.specs.LabelFile.{entriesOf}
 use Rattle.accepted.specs.working.Accepting.{Accepting}
 use Rattle.accepted.proofs.Accepted.{ready-for-queries}
 use Rattle.replies.specs.Lines.{headingLine, refusedLine}
-use Rattle.replies.specs.working.Buffer.{Put, Ready, Places, FirstLine}
+use Rattle.replies.specs.working.Buffer.{Put, FirstLine}
 
-module _ {net s depths tables : List ℕ} {number : ℕ} (accepting : Accepting net s number depths tables) where
-  -- what queries stand on
-  pub ready : number ≡ 0 → Ready net s depths tables
-  ready zero = record { prepared = ready-for-queries accepting zero; grouped = accepting .filled zero .grouped }
-
+module _ {net labels depths tables : List ℕ} {number : ℕ} (accepting : Accepting net labels number depths tables) where
   -- both headers are there
   pub net-long : number ≡ 0 → 16 ≤ length net
-  net-long zero = omega (arith, ready zero .prepared .beside .network .whole)
+  net-long zero = omega (arith, ready-for-queries accepting zero .beside .network .whole)
 
-  pub labels-long : number ≡ 0 → 16 ≤ length s
-  labels-long zero = omega (arith, ready zero .prepared .beside .formed .parents .inside)
+  pub labels-long : number ≡ 0 → 16 ≤ length labels
+  labels-long zero = omega (arith, ready-for-queries accepting zero .beside .formed .parents .inside)
 
   pub first-refused :
       {before after : List ℕ} {end : ℕ} → (number ≡ 0 → ⊥) → length before ≡ 65536 → Put before 0 (refusedLine number) 64 after end →
-      FirstLine net s depths tables after number end
+      FirstLine net labels depths tables after number end
   first-refused some long line =
       record {
         accepting = accepting;
@@ -38,8 +34,8 @@ module _ {net s depths tables : List ℕ} {number : ℕ} (accepting : Accepting 
 
   pub first-heading :
       {before after : List ℕ} {end junctions roads entries : ℕ} → number ≡ 0 → length before ≡ 65536 →
-      Read16 (junctionsOf net) junctions → roads ≡ roadsOf net → entries ≡ u32At s 8 → Put before 0 (headingLine junctions roads entries) 64 after end →
-      FirstLine net s depths tables after 0 end
+      Read16 (junctionsOf net) junctions → roads ≡ roadsOf net → entries ≡ entriesOf labels → Put before 0 (headingLine junctions roads entries) 64 after end →
+      FirstLine net labels depths tables after 0 end
   first-heading zero long read e f line =
       record {
         accepting = rw zero at accepting;
@@ -48,7 +44,3 @@ module _ {net s depths tables : List ℕ} {number : ℕ} (accepting : Accepting 
         inside = omega (arith, line .short, line .put .one-length);
         places = line .put .one-length ∙ long;
       }
-
--- a call's own places serve the replies
-pub places-lent : {junctions marks : List ℕ} → length junctions ≡ 1024 → length marks ≡ 1024 → Places junctions marks
-places-lent j m = record { junctions-places = j; marks-places = m }

@@ -126,33 +126,33 @@ pub word-then :
 word-then {rest = rest} w one two = put-as (before w rest) (omega arith) (put-then one two)
 
 pub words-put :
-    {b m m₂ m₃ m₄ m₅ a : List ℕ} {at e e₂ e₃ e₄ e₅ f : ℕ} (s t C number time units : ℕ) →
-    Put b at (word s) 11 m e → Put m e (word t) 11 m₂ e₂ → Put m₂ e₂ (word C) 11 m₃ e₃ → Put m₃ e₃ (word number) 11 m₄ e₄ →
-    Put m₄ e₄ (word time) 11 m₅ e₅ → Put m₅ e₅ (word units) 11 a f → Put b at (answerWords s t C number time units) 66 a f
+    {b m m₂ m₃ m₄ m₅ a : List ℕ} {at e e₂ e₃ e₄ e₅ f : ℕ} (s t limit number time energy : ℕ) →
+    Put b at (word s) 11 m e → Put m e (word t) 11 m₂ e₂ → Put m₂ e₂ (word limit) 11 m₃ e₃ → Put m₃ e₃ (word number) 11 m₄ e₄ →
+    Put m₄ e₄ (word time) 11 m₅ e₅ → Put m₅ e₅ (word energy) 11 a f → Put b at (answerWords s t limit number time energy) 66 a f
 unfolding answerWords
-words-put s t C number time units p q r u v w =
+words-put s t limit number time energy p q r u v w =
     word-then (numeral s) p
-    (word-then (numeral t) q (word-then (numeral C) r (word-then (numeral number) u (word-then (numeral time) v w))))
+    (word-then (numeral t) q (word-then (numeral limit) r (word-then (numeral number) u (word-then (numeral time) v w))))
 
 -- the words before the route, and the route
 line-is :
-    (s t C number time units : ℕ) (route : List ℕ) →
-    answerWords s t C number time units ++ ended route ≡ answerLine s t C number time units route
+    (s t limit number time energy : ℕ) (route : List ℕ) →
+    answerWords s t limit number time energy ++ ended route ≡ answerLine s t limit number time energy route
 unfolding answerWords answerLine
-line-is s t C number time units route = simp append-assoc
+line-is s t limit number time energy route = simp append-assoc
 
 pub refused-line-put :
-    {b m a : List ℕ} {at e f : ℕ} (s t C number : ℕ) →
-    Put b at (answerWords s t C number 0 0) 66 m e → Appended m e (hyphenByte ∷ (newlineByte ∷ [])) a f → Put b at (answerLine s t C number 0 0 noRoute) 68 a f
-refused-line-put s t C number words rest =
-    put-as (line-is s t C number 0 0 noRoute) (omega arith) (put-then words (put-known {most = 2} (omega arith) rest))
+    {b m a : List ℕ} {at e f : ℕ} (s t limit number : ℕ) →
+    Put b at (answerWords s t limit number 0 0) 66 m e → Appended m e (hyphenByte ∷ (newlineByte ∷ [])) a f → Put b at (answerLine s t limit number 0 0 noRoute) 68 a f
+refused-line-put s t limit number words rest =
+    put-as (line-is s t limit number 0 0 noRoute) (omega arith) (put-then words (put-known {most = 2} (omega arith) rest))
 
 pub found-line-put :
-    {b m k a route : List ℕ} {at e g f : ℕ} (s t C time units : ℕ) →
-    Put b at (answerWords s t C 0 time units) 66 m e → Put m e route 11264 k g → Appended k g (newlineByte ∷ []) a f →
-    Put b at (answerLine s t C 0 time units route) 11344 a f
-found-line-put {route = route} s t C time units words way rest =
-    put-as (line-is s t C 0 time units route) (omega arith) (put-then words (put-then way (put-byte-known rest)))
+    {b m k a route : List ℕ} {at e g f : ℕ} (s t limit time energy : ℕ) →
+    Put b at (answerWords s t limit 0 time energy) 66 m e → Put m e route 11264 k g → Appended k g (newlineByte ∷ []) a f →
+    Put b at (answerLine s t limit 0 time energy route) 11344 a f
+found-line-put {route = route} s t limit time energy words way rest =
+    put-as (line-is s t limit 0 time energy route) (omega arith) (put-then words (put-then way (put-byte-known rest)))
 
 pub heading-put :
     {b m m₂ m₃ m₄ m₅ a : List ℕ} {e e₂ e₃ e₄ e₅ f : ℕ} (n roads E : ℕ) →

@@ -19,13 +19,13 @@ pub buffer-then :
     Replies net input 0 end (written ++ take used out)
 buffer-then so-far filled = replies-then so-far (filled .replies)
 
-module _ {net s input depths tables out : List ℕ} {number used : ℕ} (first : FirstLine net s depths tables out number used) where
+module _ {net labels input depths tables out : List ℕ} {number used : ℕ} (first : FirstLine net labels depths tables out number used) where
   -- a refusal is all that is printed
-  pub refused-printed : (number ≡ 0 → ⊥) → Printed net s input (take used out)
+  pub refused-printed : (number ≡ 0 → ⊥) → Printed net labels input (take used out)
   refused-printed some = printed.refused (first .accepting .checked) some (first .refusal some)
 
   -- the heading, then the replies to all lines
   pub answered-printed :
-      {next : ℕ} {written : List ℕ} → number ≡ 0 → Replies net input 0 next written → length input ≤ next → Printed net s input (take used out ++ written)
+      {next : ℕ} {written : List ℕ} → number ≡ 0 → Replies net input 0 next written → length input ≤ next → Printed net labels input (take used out ++ written)
   answered-printed {written = written} zero replies all =
       printed.answered (rw zero at (first .accepting .checked)) replies all (ap (λ (l : List ℕ). l ++ written) (first .heading zero))

@@ -23,36 +23,36 @@ use Rattle.replies.specs.Printed as printed
 
 -- ---- One reply per line
 
-module _ {net : List ℕ} {s t C s′ t′ C′ : ℕ} (same : SameQuery s t C s′ t′ C′) where
+module _ {net : List ℕ} {s t limit s′ t′ limit′ : ℕ} (same : SameQuery s t limit s′ t′ limit′) where
   -- the answer of the same query
   same-answer :
-      {number time units number′ time′ units′ : ℕ} → Answers net s t C number time units → Answers net s′ t′ C′ number′ time′ units′ →
-      SameAnswer number time units number′ time′ units′
-  same-answer a b = answers-unique net s′ t′ C′ (rw (same .same-s, same .same-t, same .same-C) at a) b
+      {number time energy number′ time′ energy′ : ℕ} → Answers net s t limit number time energy → Answers net s′ t′ limit′ number′ time′ energy′ →
+      SameAnswer number time energy number′ time′ energy′
+  same-answer a b = answers-unique net s′ t′ limit′ (rw (same .same-s, same .same-t, same .same-limit) at a) b
 
   same-route :
-      {time units time′ units′ : ℕ} {route route′ : List ℕ} → time ≡ time′ → units ≡ units′ →
-      FirstRoute (networkOf net) s t (pair time units) route → FirstRoute (networkOf net) s′ t′ (pair time′ units′) route′ → route ≡ route′
+      {time energy time′ energy′ : ℕ} {route route′ : List ℕ} → time ≡ time′ → energy ≡ energy′ →
+      FirstRoute (networkOf net) s t (pair time energy) route → FirstRoute (networkOf net) s′ t′ (pair time′ energy′) route′ → route ≡ route′
   same-route e f a b = firstRoute-unique (rw (same .same-s, same .same-t, e, f) at a) b
 
 -- No second reply meets a line's statement
 pub reply-unique : {net line bytes bytes′ : List ℕ} → Reply net line bytes → Reply net line bytes′ → bytes ≡ bytes′
 reply-unique (bad n e) (bad m f) = e ∙ sym f
-reply-unique (bad n e) (refused s t C number q a some f) = absurd (n s t C q)
-reply-unique (bad n e) (answered s t C time units route q a r f) = absurd (n s t C q)
-reply-unique (refused s t C number q a some e) (bad n f) = absurd (n s t C q)
-reply-unique (refused s t C number q a some e) (refused s′ t′ C′ number′ q′ a′ some′ f) =
+reply-unique (bad n e) (refused s t limit number q a some f) = absurd (n s t limit q)
+reply-unique (bad n e) (answered s t limit time energy route q a r f) = absurd (n s t limit q)
+reply-unique (refused s t limit number q a some e) (bad n f) = absurd (n s t limit q)
+reply-unique (refused s t limit number q a some e) (refused s′ t′ limit′ number′ q′ a′ some′ f) =
     let same = query-unique q q′ in
     let one = same-answer same a a′ in
-    cc (same .same-s, same .same-t, same .same-C, one .number-is)
-reply-unique (refused s t C number q a some e) (answered s′ t′ C′ time units route q′ a′ r f) = absurd (some (same-answer (query-unique q q′) a a′ .number-is))
-reply-unique (answered s t C time units route q a r e) (bad n f) = absurd (n s t C q)
-reply-unique (answered s t C time units route q a r e) (refused s′ t′ C′ number q′ a′ some f) = absurd (some (sym (same-answer (query-unique q q′) a a′ .number-is)))
-reply-unique (answered s t C time units route q a r e) (answered s′ t′ C′ time′ units′ route′ q′ a′ r′ f) =
+    cc (same .same-s, same .same-t, same .same-limit, one .number-is)
+reply-unique (refused s t limit number q a some e) (answered s′ t′ limit′ time energy route q′ a′ r f) = absurd (some (same-answer (query-unique q q′) a a′ .number-is))
+reply-unique (answered s t limit time energy route q a r e) (bad n f) = absurd (n s t limit q)
+reply-unique (answered s t limit time energy route q a r e) (refused s′ t′ limit′ number q′ a′ some f) = absurd (some (sym (same-answer (query-unique q q′) a a′ .number-is)))
+reply-unique (answered s t limit time energy route q a r e) (answered s′ t′ limit′ time′ energy′ route′ q′ a′ r′ f) =
     let same = query-unique q q′ in
     let one = same-answer same a a′ in
     let way = same-route same (one .time-is) (one .energy-is) r r′ in
-    cc (same .same-s, same .same-t, same .same-C, one .time-is, one .energy-is, way)
+    cc (same .same-s, same .same-t, same .same-limit, one .time-is, one .energy-is, way)
 
 -- ---- Where lines start
 
@@ -119,10 +119,10 @@ module _ {net input : List ℕ} {from : ℕ} where
 -- ---- The whole
 
 -- No second text meets the statement of what is printed
-pub printed-unique : {net s input bytes bytes′ : List ℕ} → Printed net s input bytes → Printed net s input bytes′ → bytes ≡ bytes′
+pub printed-unique : {net labels input bytes bytes′ : List ℕ} → Printed net labels input bytes → Printed net labels input bytes′ → bytes ≡ bytes′
 printed-unique (printed.refused c some e) (printed.refused c′ some′ f) = e ∙ ap refusedLine (check-unique c c′) ∙ sym f
 printed-unique (printed.refused c some e) (printed.answered c′ r all f) = absurd (some (check-unique c c′))
 printed-unique (printed.answered c r all e) (printed.refused c′ some f) = absurd (some (check-unique c′ c))
-printed-unique {net} {s} (printed.answered c r all e) (printed.answered c′ r′ all′ f) =
+printed-unique {net} {labels} (printed.answered c r all e) (printed.answered c′ r′ all′ f) =
     let same = replies-same r r′ (one-end r r′ all all′) in
-    e ∙ ap (λ (l : List ℕ). headingLine (junctionsOf net) (roadsOf net) (entriesOf s) ++ l) same ∙ sym f
+    e ∙ ap (λ (l : List ℕ). headingLine (junctionsOf net) (roadsOf net) (entriesOf labels) ++ l) same ∙ sym f

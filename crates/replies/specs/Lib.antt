@@ -2,4 +2,5 @@
 pub mod Lines
 pub mod Reply
 pub mod Printed
+pub mod HandedOn
 pub mod working

@@ -3,7 +3,7 @@ use crate::Begun;
 use crate::lines::put_heading;
 use crate::lines::put_refused;
 use accepted::accept::accept;
-use bytes::u32_at;
+use forest::parents::entries_of;
 use network::header::junctions_of;
 use network::header::roads_of;
 ghost use mathlib.Core.Path.{_≡_};
@@ -33,7 +33,7 @@ pub fn begin(
             used: refused,
         };
     }
-    let heading = put_heading(out, junctions_of(net), roads_of(net), u32_at(labels, 8));
+    let heading = put_heading(out, junctions_of(net), roads_of(net), entries_of(labels));
     Begun {
         number: 0,
         used: heading,

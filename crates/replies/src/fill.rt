@@ -5,7 +5,8 @@ use text::read::line_end;
 ghost use mathlib.Core.Path.{_≡_};
 ghost use Prim.Native.Nat.{_≤_};
 ghost use lib.ListN.{length};
-ghost use Rattle.replies.specs.working.Buffer.{Ready, Places, FilledTo};
+ghost use Rattle.query.specs.working.Prepared.{Prepared};
+ghost use Rattle.replies.specs.working.Buffer.{FilledTo};
 
 // Replies to the lines from byte `from` on as long as the longest reply is sure to fit.
 pub fn fill(
@@ -16,14 +17,10 @@ pub fn fill(
     input: &[u8],
     from: usize,
     out: &mut [u8],
-    junctions: &mut [u32; 1024],
-    marks: &mut [u8; 1024],
 ) -> Filled
-    requires { ⌜ Ready (now net) (now labels) (now depths) (now tables) ⌝ }
-    requires { ⌜ Places (now junctions) (now marks) ⌝ }
+    requires { ⌜ Prepared (now net) (now labels) (now depths) (now tables) ⌝ }
     requires { ⌜ (length (now input) ≤ 65536) × (length (now out) ≡ 65536) ⌝ }
     ensures { λ r. ⌜ FilledTo (now (net .entry)) (now (input .entry)) from (now (out .exit)) (r .next) (r .used) ⌝ }
-    ensures { λ _. ⌜ Places (now (junctions .exit)) (now (marks .exit)) ⌝ }
 {
     let mut next = from;
     let mut used: usize = 0;
@@ -35,19 +32,7 @@ pub fn fill(
             };
         }
         let end = line_end(input, next);
-        used = reply(
-            net,
-            labels,
-            depths,
-            tables,
-            input,
-            next,
-            end,
-            out,
-            used,
-            junctions,
-            marks,
-        );
+        used = reply(net, labels, depths, tables, &input[next..end], out, used);
         next = end + 1;
     }
     Filled {

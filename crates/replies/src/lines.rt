@@ -1,4 +1,6 @@
 // The printed lines, word by word.
+use crate::Query;
+use query::Pair;
 use text::write::put_byte;
 use text::write::put_bytes;
 use text::write::put_numeral;
@@ -42,33 +44,26 @@ pub fn put_route(out: &mut [u8], at: usize, junctions: &[u32; 1024], count: usiz
 }
 
 // The words of a line before its route.
-fn put_words(
-    out: &mut [u8],
-    at: usize,
-    s: u32,
-    t: u32,
-    limit: u32,
-    number: u32,
-    time: u32,
-    units: u32,
-) -> usize
+fn put_words(out: &mut [u8], at: usize, query: Query, number: u32, time: u32, energy: u32) -> usize
     requires { ⌜ at + 66 ≤ length (now out) ⌝ }
-    ensures { λ r. ⌜ Put (now (out .entry)) at (answerWords s t limit number time units) 66 (now (out .exit)) r ⌝ }
+    ensures { λ r.
+        ⌜ Put (now (out .entry)) at (answerWords (query .start) (query .finish) (query .limit) number time energy) 66 (now (out .exit)) r ⌝ }
 {
-    let behind_s = put_word(out, at, s);
-    let behind_t = put_word(out, behind_s, t);
-    let behind_limit = put_word(out, behind_t, limit);
+    let behind_start = put_word(out, at, query.start);
+    let behind_finish = put_word(out, behind_start, query.finish);
+    let behind_limit = put_word(out, behind_finish, query.limit);
     let behind_number = put_word(out, behind_limit, number);
     let behind_time = put_word(out, behind_number, time);
-    put_word(out, behind_time, units)
+    put_word(out, behind_time, energy)
 }
 
 // The line of a query without an answer: its number, zeros, and no route.
-pub fn put_refused_line(out: &mut [u8], at: usize, s: u32, t: u32, limit: u32, number: u32) -> usize
+pub fn put_refused_line(out: &mut [u8], at: usize, query: Query, number: u32) -> usize
     requires { ⌜ at + 68 ≤ length (now out) ⌝ }
-    ensures { λ r. ⌜ Put (now (out .entry)) at (answerLine s t limit number 0 0 noRoute) 68 (now (out .exit)) r ⌝ }
+    ensures { λ r.
+        ⌜ Put (now (out .entry)) at (answerLine (query .start) (query .finish) (query .limit) number 0 0 noRoute) 68 (now (out .exit)) r ⌝ }
 {
-    let end = put_words(out, at, s, t, limit, number, 0, 0);
+    let end = put_words(out, at, query, number, 0, 0);
     put_bytes(out, end, b"-\n")
 }
 
@@ -76,20 +71,19 @@ pub fn put_refused_line(out: &mut [u8], at: usize, s: u32, t: u32, limit: u32, n
 pub fn put_found_line(
     out: &mut [u8],
     at: usize,
-    s: u32,
-    t: u32,
-    limit: u32,
-    time: u32,
-    units: u32,
+    query: Query,
+    pair: Pair,
     junctions: &[u32; 1024],
     count: usize,
 ) -> usize
     requires { ⌜ (1 ≤ count) × (count ≤ 1024) × (length (now junctions) ≡ 1024) ⌝ }
     requires { ⌜ at + 11344 ≤ length (now out) ⌝ }
     ensures { λ r.
-        ⌜ Put (now (out .entry)) at (answerLine s t limit 0 time units (hyphened (take count (now (junctions .entry))))) 11344 (now (out .exit)) r ⌝ }
+        ⌜ Put (now (out .entry)) at
+        (answerLine (query .start) (query .finish) (query .limit) 0 (pair .time .0) (pair .energy .0)
+        (hyphened (take count (now (junctions .entry))))) 11344 (now (out .exit)) r ⌝ }
 {
-    let behind_words = put_words(out, at, s, t, limit, 0, time, units);
+    let behind_words = put_words(out, at, query, 0, pair.time.0, pair.energy.0);
     let behind_route = put_route(out, behind_words, junctions, count);
     put_byte(out, behind_route, b'\n')
 }

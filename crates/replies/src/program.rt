@@ -1,12 +1,25 @@
 // The whole program, over two paths and two descriptors.
+use crate::HandedOn;
 use crate::begin::begin;
 use crate::fill::fill;
 ghost use mathlib.Core.Path.{_≡_};
-ghost use Prim.Native.Nat.{_≤_};
+ghost use Prim.Native.Nat.{_+_, _≤_};
+ghost use lib.ListN.{length, take};
 ghost use Rattle.tables.specs.working.Layout.{tablePlaces};
-ghost use lib.ListN.{length};
+ghost use Rattle.query.specs.working.Prepared.{Prepared};
 ghost use Rattle.io.specs.Counts.{Counts};
-ghost use Rattle.replies.specs.working.Buffer.{Ready, Places};
+ghost use Rattle.replies.specs.HandedOn.{takenLength, RepliesHandedOn, PrintedHandedOn};
+ghost use Rattle.replies.specs.working.Buffer.{FirstBytes};
+
+// How long a file is taken to be, from how many bytes were read and what one further read gave.
+fn taken_length(count: usize, rest: isize) -> usize
+    ensures { λ r. ⌜ r ≡ takenLength count rest ⌝ }
+{
+    if rest != 0 {
+        return 0;
+    }
+    count
+}
 
 // How many bytes of the file stand in the buffer; none if it is longer than the buffer or cannot be read.
 fn read_file(path: &[u8], buffer: &mut [u8]) -> usize
@@ -20,13 +33,28 @@ fn read_file(path: &[u8], buffer: &mut [u8]) -> usize
     let count = io::read_full(file, buffer);
     let rest = libc::read(file, &mut more);
     libc::close(file);
-    if rest != 0 {
-        return 0;
-    }
-    count
+    taken_length(count, rest)
 }
 
-// Writes the replies to every line, one filled buffer after another.
+// The first bytes of a buffer: what was read into it, or what is to be handed on.
+fn first_bytes(buffer: &[u8], count: usize) -> &[u8]
+    requires { ⌜ count ≤ length (now buffer) ⌝ }
+    ensures { λ r. ⌜ FirstBytes (now (buffer .entry)) count (now r) ⌝ }
+{
+    &buffer[0..count]
+}
+
+// The only write: the first bytes of the buffer. Counts them with those handed on before.
+fn hand_on(output: i32, out: &[u8], used: usize, before: usize) -> usize
+    requires { ⌜ (used ≤ length (now out)) × (length (now out) ≤ 65536) × (before ≤ 4295098368) ⌝ }
+    ensures { λ r. ⌜ r ≡ before + used ⌝ }
+{
+    let part = first_bytes(out, used);
+    io::write_all(output, part);
+    before + part.len()
+}
+
+// Hands on the replies to every line, one filled buffer after another.
 fn print_replies(
     net: &[u8],
     labels: &[u8],
@@ -35,33 +63,23 @@ fn print_replies(
     input: &[u8],
     output: i32,
     out: &mut [u8],
-    junctions: &mut [u32; 1024],
-    marks: &mut [u8; 1024],
-)
-    requires { ⌜ Ready (now net) (now labels) (now depths) (now tables) ⌝ }
-    requires { ⌜ Places (now junctions) (now marks) ⌝ }
-    requires { ⌜ (length (now input) ≤ 65536) × (length (now out) ≡ 65536) ⌝ }
+    before: usize,
+) -> usize
+    requires { ⌜ Prepared (now net) (now labels) (now depths) (now tables) ⌝ }
+    requires { ⌜ (length (now input) ≤ 65536) × (length (now out) ≡ 65536) × (before ≤ 65536) ⌝ }
+    ensures { λ r. ⌜ RepliesHandedOn (now (net .entry)) (now (input .entry)) before r ⌝ }
 {
     let mut next = 0;
+    let mut total = before;
     while next < input.len() {
-        let filled = fill(
-            net,
-            labels,
-            depths,
-            tables,
-            input,
-            next,
-            out,
-            junctions,
-            marks,
-        );
-        let used = filled.used;
-        io::write_all(output, &out[0..used]);
+        let filled = fill(net, labels, depths, tables, input, next, out);
+        total = hand_on(output, out, filled.used, total);
         next = filled.next;
     }
+    total
 }
 
-// Prints the first line and, on an accepted set, the replies to the first 65,536 bytes of the input.
+// Prints the first line and, on an accepted set, the replies to what is read of the input.
 fn answer_input(
     net: &[u8],
     labels: &[u8],
@@ -69,31 +87,36 @@ fn answer_input(
     output: i32,
     depths: &mut [u32; 1024],
     tables: &mut [u32; 13312],
-)
-    requires { ⌜ (length (now depths) ≡ 1024) × (length (now tables) ≡ tablePlaces) ⌝ }
+    text: &mut [u8],
+) -> HandedOn
+    requires { ⌜ (length (now depths) ≡ 1024) × (length (now tables) ≡ tablePlaces) × (length (now text) ≤ 65536) ⌝ }
+    ensures { λ r.
+        ⌜ PrintedHandedOn (now (net .entry)) (now (labels .entry)) (take (r .read) (now (text .exit))) (r .total) ⌝ }
 {
-    let mut junctions: [u32; 1024] = [0; 1024];
-    let mut marks: [u8; 1024] = [0; 1024];
-    let mut text = io::large_buffer();
     let mut out = io::large_buffer();
     let begun = begin(net, labels, depths, tables, &mut out);
-    let used = begun.used;
-    io::write_all(output, &out[0..used]);
+    let first = hand_on(output, &out, begun.used, 0);
     if begun.number != 0 {
-        return;
+        return HandedOn {
+            read: 0,
+            total: first,
+        };
     }
-    let count = io::read_full(input, &mut text);
-    print_replies(
+    let count = io::read_full(input, text);
+    let total = print_replies(
         net,
         labels,
         depths,
         tables,
-        &text[0..count],
+        first_bytes(text, count),
         output,
         &mut out,
-        &mut junctions,
-        &mut marks,
+        first,
     );
+    HandedOn {
+        read: count,
+        total: total,
+    }
 }
 
 // Answers the query lines of `input` on the two files.
@@ -101,15 +124,17 @@ pub fn run(net_path: &[u8], labels_path: &[u8], input: i32, output: i32) {
     let mut depths: [u32; 1024] = [0; 1024];
     let mut tables: [u32; 13312] = [0; 13312];
     let mut net = io::large_buffer();
-    let mut list_bytes = io::large_buffer();
+    let mut labels = io::large_buffer();
+    let mut text = io::large_buffer();
     let net_length = read_file(net_path, &mut net);
-    let labels_length = read_file(labels_path, &mut list_bytes);
+    let labels_length = read_file(labels_path, &mut labels);
     answer_input(
-        &net[0..net_length],
-        &list_bytes[0..labels_length],
+        first_bytes(&net, net_length),
+        first_bytes(&labels, labels_length),
         input,
         output,
         &mut depths,
         &mut tables,
+        &mut text,
     );
 }

@@ -1,21 +1,20 @@
 // One query line and its reply.
+use crate::Query;
 use crate::lines::put_bad_line;
 use crate::lines::put_found_line;
 use crate::lines::put_refused_line;
 use accepted::batch::number_of_answer;
-use paths::energy::Energy;
-use paths::seconds::Seconds;
 use query::Answer;
+use query::Pair;
 use query::limited::answer;
 use routes::route::route;
 use text::QueryLine;
 use text::read::read_query;
-ghost use mathlib.Core.Path.{_≡_};
 ghost use Prim.Native.Nat.{_+_, _≤_};
 ghost use lib.ListN.{length};
-ghost use Rattle.text.specs.Lines.{lineOf};
 ghost use Rattle.query.specs.Answers.{Answers};
-ghost use Rattle.replies.specs.working.Buffer.{QueryReplied, Replied, Ready, Places};
+ghost use Rattle.query.specs.working.Prepared.{Prepared};
+ghost use Rattle.replies.specs.working.Buffer.{QueryReplied, Replied};
 
 // The line of a found pair, with its first route.
 fn put_found(
@@ -23,25 +22,21 @@ fn put_found(
     labels: &[u8],
     depths: &[u32; 1024],
     tables: &[u32; 13312],
-    s: u32,
-    t: u32,
-    limit: u32,
-    time: Seconds,
-    units: Energy,
+    query: Query,
+    pair: Pair,
     out: &mut [u8],
     at: usize,
-    junctions: &mut [u32; 1024],
-    marks: &mut [u8; 1024],
 ) -> usize
-    requires { ⌜ Ready (now net) (now labels) (now depths) (now tables) ⌝ }
-    requires { ⌜ Answers (now net) s t limit 0 (time .0) (units .0) ⌝ }
-    requires { ⌜ (length (now junctions) ≡ 1024) × (length (now marks) ≡ 1024) ⌝ }
+    requires { ⌜ Prepared (now net) (now labels) (now depths) (now tables) ⌝ }
+    requires { ⌜ Answers (now net) (query .start) (query .finish) (query .limit) 0 (pair .time .0) (pair .energy .0) ⌝ }
     requires { ⌜ at + 11344 ≤ length (now out) ⌝ }
-    ensures { λ r. ⌜ QueryReplied (now (net .entry)) s t limit (now (out .entry)) at (now (out .exit)) r ⌝ }
-    ensures { λ _. ⌜ (length (now (junctions .exit)) ≡ 1024) × (length (now (marks .exit)) ≡ 1024) ⌝ }
+    ensures { λ r.
+        ⌜ QueryReplied (now (net .entry)) (query .start) (query .finish) (query .limit) (now (out .entry)) at (now (out .exit)) r ⌝ }
 {
-    let from = s as usize;
-    let to = t as usize;
+    let mut junctions: [u32; 1024] = [0; 1024];
+    let mut marks: [u8; 1024] = [0; 1024];
+    let from = query.start as usize;
+    let to = query.finish as usize;
     let count = route(
         net,
         labels,
@@ -49,12 +44,12 @@ fn put_found(
         tables,
         from,
         to,
-        time,
-        units,
-        junctions,
-        marks,
+        pair.time,
+        pair.energy,
+        &mut junctions,
+        &mut marks,
     );
-    put_found_line(out, at, s, t, limit, time.0, units.0, junctions, count)
+    put_found_line(out, at, query, pair, &junctions, count)
 }
 
 // The line of a query.
@@ -63,77 +58,53 @@ fn reply_query(
     labels: &[u8],
     depths: &[u32; 1024],
     tables: &[u32; 13312],
-    s: u32,
-    t: u32,
-    limit: u32,
+    query: Query,
     out: &mut [u8],
     at: usize,
-    junctions: &mut [u32; 1024],
-    marks: &mut [u8; 1024],
 ) -> usize
-    requires { ⌜ Ready (now net) (now labels) (now depths) (now tables) ⌝ }
-    requires { ⌜ Places (now junctions) (now marks) ⌝ }
+    requires { ⌜ Prepared (now net) (now labels) (now depths) (now tables) ⌝ }
     requires { ⌜ at + 11344 ≤ length (now out) ⌝ }
-    ensures { λ r. ⌜ QueryReplied (now (net .entry)) s t limit (now (out .entry)) at (now (out .exit)) r ⌝ }
-    ensures { λ _. ⌜ Places (now (junctions .exit)) (now (marks .exit)) ⌝ }
+    ensures { λ r.
+        ⌜ QueryReplied (now (net .entry)) (query .start) (query .finish) (query .limit) (now (out .entry)) at (now (out .exit)) r ⌝ }
 {
-    let found = answer(net, labels, depths, tables, s, t, limit);
-    let Answer::Found(time, units) = found else {
-        return put_refused_line(out, at, s, t, limit, number_of_answer(found));
-    };
-    put_found(
+    let found = answer(
         net,
         labels,
         depths,
         tables,
-        s,
-        t,
-        limit,
-        time,
-        units,
-        out,
-        at,
-        junctions,
-        marks,
-    )
+        query.start,
+        query.finish,
+        query.limit,
+    );
+    let Answer::Found(time, energy) = found else {
+        return put_refused_line(out, at, query, number_of_answer(found));
+    };
+    let pair = Pair { time, energy };
+    put_found(net, labels, depths, tables, query, pair, out, at)
 }
 
-// The reply to the line of the input from `start` to `end`, put behind the first `at` bytes.
+// The reply to one line, put behind the first `at` bytes.
 pub fn reply(
     net: &[u8],
     labels: &[u8],
     depths: &[u32; 1024],
     tables: &[u32; 13312],
-    input: &[u8],
-    start: usize,
-    end: usize,
+    line: &[u8],
     out: &mut [u8],
     at: usize,
-    junctions: &mut [u32; 1024],
-    marks: &mut [u8; 1024],
 ) -> usize
-    requires { ⌜ Ready (now net) (now labels) (now depths) (now tables) ⌝ }
-    requires { ⌜ Places (now junctions) (now marks) ⌝ }
-    requires { ⌜ (start ≤ end) × (end ≤ length (now input)) ⌝ }
+    requires { ⌜ Prepared (now net) (now labels) (now depths) (now tables) ⌝ }
     requires { ⌜ at + 11344 ≤ length (now out) ⌝ }
-    ensures { λ r. ⌜ Replied (now (net .entry)) (lineOf (now (input .entry)) start end) (now (out .entry)) at (now (out .exit)) r ⌝ }
-    ensures { λ _. ⌜ Places (now (junctions .exit)) (now (marks .exit)) ⌝ }
+    ensures { λ r. ⌜ Replied (now (net .entry)) (now (line .entry)) (now (out .entry)) at (now (out .exit)) r ⌝ }
 {
-    let query = read_query(input, start, end);
-    let QueryLine::Query(s, t, limit) = query else {
+    let read = read_query(line, 0, line.len());
+    let QueryLine::Query(start, finish, limit) = read else {
         return put_bad_line(out, at);
     };
-    reply_query(
-        net,
-        labels,
-        depths,
-        tables,
-        s,
-        t,
+    let query = Query {
+        start,
+        finish,
         limit,
-        out,
-        at,
-        junctions,
-        marks,
-    )
+    };
+    reply_query(net, labels, depths, tables, query, out, at)
 }

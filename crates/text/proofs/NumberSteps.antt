@@ -1,16 +1,25 @@
 -- A number is its digits' whole run. In this order: one run, one number; bytes and their places; the ways to read one.
 use mathlib.Core.Path.{_≡_, refl, sym, ap, _∙_, subst}
 use mathlib.Core.Logic.{_⊎_, inl, inr}
+use mathlib.Core.Bool.{Bool, true, false, not}
 use mathlib.Core.List.{List, [], _∷_, List·Memᴰ, List·Memᴰ·head, List·Memᴰ·tail, List·Memᴰ·not-nil, List·Memᴰ·cases-cons}
 use Prim.Native.Nat.{ℕ, zero, suc, _+_, _-_, _≤_, _<_}
 use native.Mathlib.Omega.{arith}
+use borrow.Author.Tests.{not-true, not-false}
 use lib.ListN.{length, getD}
 use Rattle.text.specs.Numbers.{zeroByte, IsDigit, IsNumeral}
 use Rattle.text.specs.Lines.{lineOf}
-use Rattle.text.specs.working.Reading.{mostNumber, DigitRun, DigitsRead, NumberAt, NumberRead, read, bad}
+use Rattle.text.specs.working.Reading.{mostNumber, Fits, DigitRun, DigitsRead, NumberAt, NumberRead, read, bad}
 use Rattle.text.specs.declared.read.Number.{Number}
 use Rattle.text.specs.declared.read.Number.the-variants as number
 use Rattle.text.proofs.LineParts.{line-length, line-at}
+
+-- what a test for a number that is too large says
+pub not-fitting : {value : ℕ} {answer : Bool} → Fits value answer → not answer ≡ true → mostNumber < value
+not-fitting {answer = answer} told t = told .fails (not-true answer t)
+
+pub fitting : {value : ℕ} {answer : Bool} → Fits value answer → not answer ≡ false → value ≤ mostNumber
+fitting {answer = answer} told f = told .holds (not-false answer f)
 
 pub numeral-unique : {bytes : List ℕ} {a b : ℕ} → IsNumeral bytes a → IsNumeral bytes b → a ≡ b
 numeral-unique p q = sym (p .value) ∙ q .value

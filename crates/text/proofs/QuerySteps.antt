@@ -16,7 +16,7 @@ use Rattle.text.proofs.NumberSteps.{number-unique, numeral-at}
 
 module _ {input : List ℕ} {start end : ℕ} (forward : start ≤ end) (fits : end ≤ length input) where
   -- the places of a query line
-  pub query-at : {s t C : ℕ} → IsQuery (lineOf input start end) s t C → QueryAt input start end s t C
+  pub query-at : {s t limit : ℕ} → IsQuery (lineOf input start end) s t limit → QueryAt input start end s t limit
   query-at q =
       record {
         after-s = one .at;
@@ -35,7 +35,7 @@ module _ {input : List ℕ} {start end : ℕ} (forward : start ≤ end) (fits : 
       two = line-cut input (one .at + 1) end (omega (arith, one .inside)) fits (one .behind)
 
   -- the bytes of what stands at the places
-  pub query-of : {s t C : ℕ} → QueryAt input start end s t C → IsQuery (lineOf input start end) s t C
+  pub query-of : {s t limit : ℕ} → QueryAt input start end s t limit → IsQuery (lineOf input start end) s t limit
   query-of q =
       record {
         first = lineOf input start a;
@@ -59,51 +59,51 @@ module _ {input : List ℕ} {start end : ℕ} (forward : start ≤ end) (fits : 
           ∙ ap (λ (byte : ℕ). lineOf input from at ++ (byte ∷ lineOf input (at + 1) end)) (space .space)
 
   -- a line without places is bad
-  no-query : ((s t C : ℕ) → QueryAt input start end s t C → ⊥) → QueryRead (lineOf input start end) case.Bad
-  no-query none = bad (λ s t C q. none s t C (query-at q)) refl
+  no-query : ((s t limit : ℕ) → QueryAt input start end s t limit → ⊥) → QueryRead (lineOf input start end) case.Bad
+  no-query none = bad (λ s t limit q. none s t limit (query-at q)) refl
 
   -- no first number
   pub no-first : ((s next : ℕ) → NumberAt input start end s next → ⊥) → QueryRead (lineOf input start end) case.Bad
-  no-first none = no-query (λ s t C q. none s (q .after-s) (q .first))
+  no-first none = no-query (λ s t limit q. none s (q .after-s) (q .first))
 
   module _ {s a : ℕ} (first : NumberAt input start end s a) where
-    after-first : {s′ t C : ℕ} (q : QueryAt input start end s′ t C) → q .after-s ≡ a
+    after-first : {s′ t limit : ℕ} (q : QueryAt input start end s′ t limit) → q .after-s ≡ a
     after-first q = number-unique (q .first) first .one-end
 
     -- no space behind it
     pub no-first-space : (SpaceAt input a end → ⊥) → QueryRead (lineOf input start end) case.Bad
-    no-first-space none = no-query (λ s′ t C q. none (subst (λ (k : ℕ). SpaceAt input k end) (after-first q) (q .first-space)))
+    no-first-space none = no-query (λ s′ t limit q. none (subst (λ (k : ℕ). SpaceAt input k end) (after-first q) (q .first-space)))
 
-    second-at : {s′ t C : ℕ} (q : QueryAt input start end s′ t C) → NumberAt input (a + 1) end t (q .after-t)
+    second-at : {s′ t limit : ℕ} (q : QueryAt input start end s′ t limit) → NumberAt input (a + 1) end t (q .after-t)
     second-at {t = t} q = subst (λ (k : ℕ). NumberAt input (k + 1) end t (q .after-t)) (after-first q) (q .second)
 
     -- no second number
     pub no-second : ((t next : ℕ) → NumberAt input (a + 1) end t next → ⊥) → QueryRead (lineOf input start end) case.Bad
-    no-second none = no-query (λ s′ t C q. none t (q .after-t) (second-at q))
+    no-second none = no-query (λ s′ t limit q. none t (q .after-t) (second-at q))
 
     module _ {t b : ℕ} (second : NumberAt input (a + 1) end t b) where
-      after-second : {s′ t′ C : ℕ} (q : QueryAt input start end s′ t′ C) → q .after-t ≡ b
+      after-second : {s′ t′ limit : ℕ} (q : QueryAt input start end s′ t′ limit) → q .after-t ≡ b
       after-second q = number-unique (second-at q) second .one-end
 
       -- no space behind it
       pub no-second-space : (SpaceAt input b end → ⊥) → QueryRead (lineOf input start end) case.Bad
-      no-second-space none = no-query (λ s′ t′ C q. none (subst (λ (k : ℕ). SpaceAt input k end) (after-second q) (q .second-space)))
+      no-second-space none = no-query (λ s′ t′ limit q. none (subst (λ (k : ℕ). SpaceAt input k end) (after-second q) (q .second-space)))
 
-      third-at : {s′ t′ C : ℕ} (q : QueryAt input start end s′ t′ C) → NumberAt input (b + 1) end C end
-      third-at {C = C} q = subst (λ (k : ℕ). NumberAt input (k + 1) end C end) (after-second q) (q .third)
+      third-at : {s′ t′ limit : ℕ} (q : QueryAt input start end s′ t′ limit) → NumberAt input (b + 1) end limit end
+      third-at {limit = limit} q = subst (λ (k : ℕ). NumberAt input (k + 1) end limit end) (after-second q) (q .third)
 
       -- no third number
-      pub no-third : ((C next : ℕ) → NumberAt input (b + 1) end C next → ⊥) → QueryRead (lineOf input start end) case.Bad
-      no-third none = no-query (λ s′ t′ C q. none C end (third-at q))
+      pub no-third : ((limit next : ℕ) → NumberAt input (b + 1) end limit next → ⊥) → QueryRead (lineOf input start end) case.Bad
+      no-third none = no-query (λ s′ t′ limit q. none limit end (third-at q))
 
-      module _ {C c : ℕ} (third : NumberAt input (b + 1) end C c) where
+      module _ {limit c : ℕ} (third : NumberAt input (b + 1) end limit c) where
         -- bytes left behind it
         pub bytes-left : (c ≡ end → ⊥) → QueryRead (lineOf input start end) case.Bad
-        bytes-left left = no-query (λ s′ t′ C′ q. left (number-unique third (third-at q) .one-end))
+        bytes-left left = no-query (λ s′ t′ limit′ q. left (number-unique third (third-at q) .one-end))
 
-        pub query-stands : SpaceAt input a end → SpaceAt input b end → c ≡ end → QueryRead (lineOf input start end) (case.Query s t C)
+        pub query-stands : SpaceAt input a end → SpaceAt input b end → c ≡ end → QueryRead (lineOf input start end) (case.Query s t limit)
         query-stands x y e =
-            query s t C
+            query s t limit
             (query-of
             (record {
               after-s = a;
@@ -112,6 +112,6 @@ module _ {input : List ℕ} {start end : ℕ} (forward : start ≤ end) (fits : 
               first-space = x;
               second = second;
               second-space = y;
-              third = subst (NumberAt input (b + 1) end C) e third;
+              third = subst (NumberAt input (b + 1) end limit) e third;
             }))
             refl

@@ -22,15 +22,15 @@ module _ {input : List ℕ} {start : ℕ} where
   pub line-end-unique : {e e′ : ℕ} → LineEnds input start e → LineEnds input start e′ → e ≡ e′
   line-end-unique p q = omega (arith, no-later p q, no-later q p)
 
-pub record SameQuery (s t C s′ t′ C′ : ℕ) : Type 0 where
+pub record SameQuery (s t limit s′ t′ limit′ : ℕ) : Type 0 where
   pub same-s : s ≡ s′
   pub same-t : t ≡ t′
-  pub same-C : C ≡ C′
+  pub same-limit : limit ≡ limit′
 
 module _ {input : List ℕ} {start end : ℕ} where
-  places-unique : {s t C s′ t′ C′ : ℕ} → QueryAt input start end s t C → QueryAt input start end s′ t′ C′ → SameQuery s t C s′ t′ C′
-  places-unique {s} {t} {C} {s′} {t′} {C′} p q =
-      record { same-s = one .one-number; same-t = two .one-number; same-C = number-unique (rw (two .one-end) at (p .third)) (q .third) .one-number }
+  places-unique : {s t limit s′ t′ limit′ : ℕ} → QueryAt input start end s t limit → QueryAt input start end s′ t′ limit′ → SameQuery s t limit s′ t′ limit′
+  places-unique {s} {t} {limit} {s′} {t′} {limit′} p q =
+      record { same-s = one .one-number; same-t = two .one-number; same-limit = number-unique (rw (two .one-end) at (p .third)) (q .third) .one-number }
     where
       one : SameNumber s (p .after-s) s′ (q .after-s)
       one = number-unique (p .first) (q .first)
@@ -40,16 +40,16 @@ module _ {input : List ℕ} {start end : ℕ} where
 
 module _ {line : List ℕ} where
   -- the line as the whole of an input
-  whole-at : {s t C : ℕ} → IsQuery line s t C → QueryAt line 0 (length line) s t C
+  whole-at : {s t limit : ℕ} → IsQuery line s t limit → QueryAt line 0 (length line) s t limit
   whole-at q = query-at (omega arith) (omega arith) (rw line-whole q)
 
   -- A line says at most one query
-  pub query-unique : {s t C s′ t′ C′ : ℕ} → IsQuery line s t C → IsQuery line s′ t′ C′ → SameQuery s t C s′ t′ C′
+  pub query-unique : {s t limit s′ t′ limit′ : ℕ} → IsQuery line s t limit → IsQuery line s′ t′ limit′ → SameQuery s t limit s′ t′ limit′
   query-unique p q = places-unique (whole-at p) (whole-at q)
 
   -- Nothing else can be read of a line
   pub query-read-unique : {r r′ : QueryLine} → QueryRead line r → QueryRead line r′ → r ≡ r′
-  query-read-unique (query s t C p e) (query s′ t′ C′ q f) = let same = query-unique p q in cc (same .same-s, same .same-t, same .same-C)
-  query-read-unique (query s t C p e) (bad n f) = absurd (n s t C p)
-  query-read-unique (bad n e) (query s t C p f) = absurd (n s t C p)
+  query-read-unique (query s t limit p e) (query s′ t′ limit′ q f) = let same = query-unique p q in cc (same .same-s, same .same-t, same .same-limit)
+  query-read-unique (query s t limit p e) (bad n f) = absurd (n s t limit p)
+  query-read-unique (bad n e) (query s t limit p f) = absurd (n s t limit p)
   query-read-unique (bad n e) (bad m f) = e ∙ sym f

@@ -5,7 +5,7 @@ ghost use Prim.Native.Nat.{_≤_, _<_};
 ghost use lib.ListN.{length};
 ghost use Rattle.text.specs.Lines.{LineEnds, lineOf};
 ghost use Rattle.text.specs.working.Reading.{QueryRead};
-ghost use Rattle.text.specs.working.Reading.{KindOf, Longer, DigitsRead, NumberRead, SpaceTold};
+ghost use Rattle.text.specs.working.Reading.{KindOf, Fits, Longer, DigitsRead, NumberRead, SpaceTold};
 
 // The largest number of a line.
 const MOST: u64 = 4294967295;
@@ -64,6 +64,13 @@ pub fn line_end(input: &[u8], start: usize) -> usize
     end
 }
 
+// Whether a number is small enough for a line.
+fn fits(value: u64) -> bool
+    ensures { λ r. ⌜ Fits value r ⌝ }
+{
+    value <= MOST
+}
+
 // The number one digit longer; a number above MOST stays as it is, so that no run of digits is too long.
 fn longer(value: u64, digit: u64) -> u64
     requires { ⌜ digit ≤ 9 ⌝ }
@@ -109,7 +116,7 @@ fn read_number(input: &[u8], start: usize, end: usize) -> Number
             return Number::Bad;
         }
     }
-    if value > MOST {
+    if !fits(value) {
         return Number::Bad;
     }
     Number::Read(value as u32, next)

@@ -7,9 +7,7 @@ use Rattle.text.specs.Numbers.{numeral, spaceByte}
 use Rattle.text.specs.Queries.{IsQuery}
 use Rattle.text.specs.working.Writing.{Appended}
 use Rattle.network.specs.NetworkFile.{junctionsOf, roadsOf}
-use Rattle.network.specs.working.Roads.{Grouped}
 use Rattle.forest.specs.LabelFile.{entriesOf}
-use Rattle.query.specs.working.Prepared.{Prepared}
 use Rattle.accepted.specs.working.Accepting.{Accepting}
 use Rattle.replies.specs.Lines.{_␣_, headingLine, refusedLine}
 use Rattle.replies.specs.Reply.{Reply}
@@ -26,7 +24,7 @@ word number = numeral number ++ (spaceByte ∷ [])
 
 -- The first six words of a line, each with its space
 unfoldable pub answerWords : ℕ → ℕ → ℕ → ℕ → ℕ → ℕ → List ℕ
-answerWords s t C number time units = numeral s ␣ numeral t ␣ numeral C ␣ numeral number ␣ numeral time ␣ numeral units ␣ []
+answerWords s t limit number time energy = numeral s ␣ numeral t ␣ numeral limit ␣ numeral number ␣ numeral time ␣ numeral energy ␣ []
 
 -- A line's reply stands in the buffer
 pub record Replied (net line before : List ℕ) (at : ℕ) (after : List ℕ) (end : ℕ) : Type 0 where
@@ -36,32 +34,28 @@ pub record Replied (net line before : List ℕ) (at : ℕ) (after : List ℕ) (e
   pub short : length bytes ≤ 11344
 
 -- The line of a query stands in the buffer, whatever its bytes were
-pub record QueryReplied (net : List ℕ) (s t C : ℕ) (before : List ℕ) (at : ℕ) (after : List ℕ) (end : ℕ) : Type 0 where
+pub record QueryReplied (net : List ℕ) (s t limit : ℕ) (before : List ℕ) (at : ℕ) (after : List ℕ) (end : ℕ) : Type 0 where
   pub bytes : List ℕ
   pub put : Appended before at bytes after end
-  pub is : (line : List ℕ) → IsQuery line s t C → Reply net line bytes
+  pub is : (line : List ℕ) → IsQuery line s t limit → Reply net line bytes
   pub short : length bytes ≤ 11344
-
--- An accepted set with the tables of one check
-pub record Ready (net labels depths tables : List ℕ) : Type 0 where
-  pub prepared : Prepared net labels depths tables
-  pub grouped : Grouped net tables
-
--- The places lent to every reply
-pub record Places (junctions marks : List ℕ) : Type 0 where
-  pub junctions-places : length junctions ≡ 1024
-  pub marks-places : length marks ≡ 1024
 
 -- The buffer holds the replies to the lines from byte `from` on and before byte `next`, and at least one if there is a line
 pub record FilledTo (net input : List ℕ) (from : ℕ) (out : List ℕ) (next used : ℕ) : Type 0 where
   pub replies : Replies net input from next (take used out)
   pub inside : used ≤ length out
   pub onward : from < length input → from < next
+  pub places : length out ≡ 65536
+
+-- The part is the first bytes of a buffer
+pub record FirstBytes (buffer : List ℕ) (count : ℕ) (part : List ℕ) : Type 0 where
+  pub counted : length part ≡ count
+  pub is : part ≡ take count buffer
 
 -- The check's outcome and the first line: the heading of an accepted set, or the refusal
-pub record FirstLine (net s : List ℕ) (depths tables out : List ℕ) (number used : ℕ) : Type 0 where
-  pub accepting : Accepting net s number depths tables
-  pub heading : number ≡ 0 → take used out ≡ headingLine (junctionsOf net) (roadsOf net) (entriesOf s)
+pub record FirstLine (net labels : List ℕ) (depths tables out : List ℕ) (number used : ℕ) : Type 0 where
+  pub accepting : Accepting net labels number depths tables
+  pub heading : number ≡ 0 → take used out ≡ headingLine (junctionsOf net) (roadsOf net) (entriesOf labels)
   pub refusal : (number ≡ 0 → ⊥) → take used out ≡ refusedLine number
   pub inside : used ≤ length out
   pub places : length out ≡ 65536

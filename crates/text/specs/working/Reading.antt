@@ -30,6 +30,11 @@ pub record NoNewline (input : List ℕ) (start to : ℕ) : Type 0 where
   pub inside : to ≤ length input
   pub none : (i : ℕ) → start ≤ i → i < to → getD input i 0 ≡ newlineByte → ⊥
 
+-- A value is told to be at most the largest number, or above it
+pub record Fits (value : ℕ) (answer : Bool) : Type 0 where
+  pub holds : answer ≡ true → value ≤ mostNumber
+  pub fails : answer ≡ false → mostNumber < value
+
 -- A value takes one digit more, unless it is too large already
 pub record Longer (value digit r : ℕ) : Type 0 where
   pub grows : value ≤ mostNumber → r ≡ 10 * value + digit
@@ -78,16 +83,16 @@ pub record SpaceTold (input : List ℕ) (at end : ℕ) (answer : Bool) : Type 0 
   pub fails : answer ≡ false → SpaceAt input at end → ⊥
 
 -- A query line by its places: each number ends where its digits end, a space behind the first two, the line's end behind the third
-pub record QueryAt (input : List ℕ) (start end s t C : ℕ) : Type 0 where
+pub record QueryAt (input : List ℕ) (start end s t limit : ℕ) : Type 0 where
   pub after-s : ℕ
   pub after-t : ℕ
   pub first : NumberAt input start end s after-s
   pub first-space : SpaceAt input after-s end
   pub second : NumberAt input (after-s + 1) end t after-t
   pub second-space : SpaceAt input after-t end
-  pub third : NumberAt input (after-t + 1) end C end
+  pub third : NumberAt input (after-t + 1) end limit end
 
 -- What was read of a line: its three numbers, or that it is bad
 pub data QueryRead (line : List ℕ) (r : QueryLine) : Type 0 where
-  query : (s t C : ℕ) → IsQuery line s t C → r ≡ case.Query s t C → QueryRead line r
+  query : (s t limit : ℕ) → IsQuery line s t limit → r ≡ case.Query s t limit → QueryRead line r
   bad : BadLine line → r ≡ case.Bad → QueryRead line r

@@ -23,8 +23,8 @@ junctions-of-requires c κs = omega (arith, net-long (c .before .before .accept 
 roads-of-requires : tie.Need-roads-of-requires
 roads-of-requires c κs = omega (arith, net-long (c .before .before .before .accept .ensures) (c .before .before .if1 .left))
 
-u32-at-requires : tie.Need-u32-at-requires
-u32-at-requires c κs = omega (arith, labels-long (c .before .before .before .before .accept .ensures) (c .before .before .before .if1 .left))
+entries-of-requires : tie.Need-entries-of-requires
+entries-of-requires c κs = omega (arith, labels-long (c .before .before .before .before .accept .ensures) (c .before .before .before .if1 .left))
 
 put-heading-requires : tie.Need-put-heading-requires
 put-heading-requires c κs = search needs
@@ -45,7 +45,7 @@ begin-spec =
     returns
     junctions-of-requires
     roads-of-requires
-    u32-at-requires
+    entries-of-requires
     put-heading-requires
     same-length-2
     returns-2)

@@ -1,54 +1,43 @@
--- `replies::program::print_replies` ends: each filled buffer goes on from where the one before ended.
+-- `replies::program::print_replies`: each turn hands on one filled buffer more (`handing-more`), from where the one before ended.
 use native.Mathlib.Omega.{arith}
-use mathlib.Core.Path.{_≡_}
 use Prim.Native.Nat.{_-_}
 use lib.ListN.{length}
-use Rattle.replies.specs.working.Buffer.{Places}
+use Rattle.replies.proofs.HandingOn.{HandingOn, handing-start, handing-more, handed-all}
 use borrow.Author.Needs.{needs}
 use Rattle.replies.proofs.program.print_replies.Statement.{statement}
 use Rattle.replies.proofs.program.print_replies.Tie as tie
 
 abbrev Inv-loop : tie.InvT-loop
-Inv-loop net labels depths tables input output out₀ junctions₀ marks₀ next₀ out junctions marks next =
-    Places junctions marks × (length out ≡ 65536)
+Inv-loop net labels depths tables input output out₀ before next₀ total₀ out next total = HandingOn net input before out next total
 
 abbrev μ-loop : tie.MeasureT-loop
-μ-loop net labels depths tables input output out₀ junctions₀ marks₀ next₀ out junctions marks next =
-    length input - next
+μ-loop net labels depths tables input output out₀ before next₀ total₀ out next total = length input - next
 
 loop-holds : tie.Need-loop-holds Inv-loop μ-loop
-loop-holds c = search needs
+loop-holds c = handing-start (omega arith) (omega arith) (omega arith) (omega arith)
 
 fill-requires : tie.Need-fill-requires Inv-loop μ-loop
-fill-requires c κs =
-    let held = c .before .before .before .before .before .before .before .before .before .pre in
-    let kept = c .before .before .before .before .loop .inv in
-    (held .0, (kept .0, (held .1 .1 .0, kept .1)))
+fill-requires c κs = search needs
 
-sub-write-all : tie.Need-sub-write-all Inv-loop μ-loop
-sub-write-all c = search needs
-
-part-write-all-start : tie.Need-part-write-all-start Inv-loop μ-loop
-part-write-all-start c = search needs
-
-part-write-all-end : tie.Need-part-write-all-end Inv-loop μ-loop
-part-write-all-end c = search needs
-
-write-all-requires : tie.Need-write-all-requires Inv-loop μ-loop
-write-all-requires c κs = search needs
+hand-on-requires : tie.Need-hand-on-requires Inv-loop μ-loop
+hand-on-requires c κs =
+    let filled = c .before .before .before .fill .ensures in
+    let held = c .before .before .before .before .before .before .loop .inv in
+    (omega (arith, filled .inside), omega (arith, filled .places), omega (arith, held .few, held .near))
 
 loop-less : tie.Need-loop-less Inv-loop μ-loop
-loop-less c =
-    omega (arith, c .before .before .before .before .before .fill .ensures .0 .onward (c .before .before .before .before .before .before .before .before .before .loop-test .taken))
+loop-less c = omega (arith, c .before .before .before .before .fill .ensures .onward (c .before .before .before .before .before .before .loop-test .taken))
 
 loop-again : tie.Need-loop-again Inv-loop μ-loop
-loop-again c = search needs
+loop-again c =
+    handing-more (c .before .before .before .before .before .before .before .loop .inv) (c .before .before .before .before .before .before .loop-test .taken)
+    (c .before .before .before .before .fill .ensures) (omega arith)
 
 same-length : tie.Need-same-length Inv-loop μ-loop
 same-length c = search needs
 
 returns : tie.Need-returns Inv-loop μ-loop
-returns c = search needs
+returns c = search (handed-all)
 
 pub print-replies-spec : {M : Type 1} → statement M
 print-replies-spec =
@@ -58,10 +47,7 @@ print-replies-spec =
     μ-loop
     loop-holds
     fill-requires
-    sub-write-all
-    part-write-all-start
-    part-write-all-end
-    write-all-requires
+    hand-on-requires
     loop-less
     loop-again
     same-length

@@ -14,19 +14,19 @@ sub-t5 : tie.Need-sub-t5
 sub-t5 c = search needs
 
 returns : tie.Need-returns
-returns c = space (c .match .keys1) refl
+returns c = space (omega arith) refl
 
 returns-2 : tie.Need-returns-2
-returns-2 c = newline (c .match .keys2) refl
+returns-2 c = newline (omega arith) refl
 
 returns-3 : tie.Need-returns-3
 returns-3 c = digit (search needs) (ap kind.Digit (omega arith))
 
 returns-4 : tie.Need-returns-4
-returns-4 c = other (λ d. omega arith) (c .before .match .rest .0 .1) (c .before .match .rest .1) refl
+returns-4 c = other (λ d. omega arith) (λ e. omega arith) (λ e. omega arith) refl
 
 returns-5 : tie.Need-returns-5
-returns-5 c = other (λ d. omega arith) (c .before .before .match .rest .0 .1) (c .before .before .match .rest .1) refl
+returns-5 c = other (λ d. omega arith) (λ e. omega arith) (λ e. omega arith) refl
 
 pub kind-of-spec : {M : Type 1} → statement M
 kind-of-spec =

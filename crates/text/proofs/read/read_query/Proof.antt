@@ -111,7 +111,7 @@ returns-7 c =
     query-stands (omega arith) (omega arith) first second third
     (space-stands (g .before .before .before .before .space-at .ensures) (g .before .before .before .if1 .left))
     (space-stands (h .before .before .before .before .space-at2 .ensures) (h .before .before .before .if2 .left))
-    (c .if3 .left)
+    (omega arith)
 
 pub read-query-spec : {M : Type 1} → statement M
 read-query-spec =

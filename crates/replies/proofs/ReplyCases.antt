@@ -1,15 +1,17 @@
--- The ways through a reply: a bad line, a query without an answer, a found pair with its route.
+-- The cases of a reply: a bad line, a query without an answer, a found pair with its route.
 use mathlib.Core.Path.{_≡_, refl, sym, ap, _∙_}
 use mathlib.Core.Logic.{_⊎_, inl, inr}
 use mathlib.Core.List.{List}
 use Prim.Native.Nat.{ℕ, zero, suc, _≤_}
 use native.Mathlib.Omega.{arith}
 use lib.ListN.{length, take}
+use Rattle.text.specs.Lines.{lineOf}
 use Rattle.text.specs.Queries.{IsQuery, BadLine}
 use Rattle.text.specs.working.Reading.{query, bad}
 use Rattle.text.specs.working.Reading.{QueryRead}
 use Rattle.text.specs.declared.QueryLine.{QueryLine}
 use Rattle.text.specs.declared.QueryLine.the-variants as line
+use Rattle.text.proofs.LineParts.{line-whole}
 use Rattle.paths.specs.Weights.{pair}
 use Rattle.paths.specs.Network.{Walk, stay, go, junctions}
 use Rattle.network.specs.NetworkFile.{networkOf}
@@ -32,37 +34,37 @@ pub record RouteSized (count : ℕ) (places : List ℕ) : Type 0 where
   pub some : 1 ≤ count
   pub few : count ≤ length places
 
-pub route-sized : {net : List ℕ} {s t time units count : ℕ} {places : List ℕ} → RouteFound net s t (pair time units) count places → RouteSized count places
+pub route-sized : {net : List ℕ} {s t time energy count : ℕ} {places : List ℕ} → RouteFound net s t (pair time energy) count places → RouteSized count places
 route-sized {count = zero} route = absurd (omega (arith, some-junction (route .first .walk), ap length (route .first .meets)))
 route-sized {count = suc count} route = record { some = omega arith; few = route .room }
 
 -- ---- What stands in the buffer
 
-module _ {net before after : List ℕ} {at end s t C : ℕ} where
+module _ {net before after : List ℕ} {at end s t limit : ℕ} where
   pub found-replied :
-      {time units count : ℕ} {places : List ℕ} →
-      Answers net s t C 0 time units → RouteFound net s t (pair time units) count places →
-      Put before at (answerLine s t C 0 time units (hyphened (take count places))) 11344 after end → QueryReplied net s t C before at after end
-  found-replied {time} {units} {count} {places} answers route line =
+      {time energy count : ℕ} {places : List ℕ} →
+      Answers net s t limit 0 time energy → RouteFound net s t (pair time energy) count places →
+      Put before at (answerLine s t limit 0 time energy (hyphened (take count places))) 11344 after end → QueryReplied net s t limit before at after end
+  found-replied {time} {energy} {count} {places} answers route line =
       record {
-        bytes = answerLine s t C 0 time units (hyphened (take count places));
+        bytes = answerLine s t limit 0 time energy (hyphened (take count places));
         put = line .put;
-        is = λ text h. reply.answered s t C time units (take count places) h answers (route .first) refl;
+        is = λ text h. reply.answered s t limit time energy (take count places) h answers (route .first) refl;
         short = omega (arith, line .short, line .put .ends);
       }
 
   pub refused-replied :
-      {number : ℕ} → Answers net s t C number 0 0 → (number ≡ 0 → ⊥) → Put before at (answerLine s t C number 0 0 noRoute) 68 after end →
-      QueryReplied net s t C before at after end
+      {number : ℕ} → Answers net s t limit number 0 0 → (number ≡ 0 → ⊥) → Put before at (answerLine s t limit number 0 0 noRoute) 68 after end →
+      QueryReplied net s t limit before at after end
   refused-replied {number} answers some line =
       record {
-        bytes = answerLine s t C number 0 0 noRoute;
+        bytes = answerLine s t limit number 0 0 noRoute;
         put = line .put;
-        is = λ text h. reply.refused s t C number h answers some refl;
+        is = λ text h. reply.refused s t limit number h answers some refl;
         short = omega (arith, line .short, line .put .ends);
       }
 
-  pub query-replied : {text : List ℕ} → IsQuery text s t C → QueryReplied net s t C before at after end → Replied net text before at after end
+  pub query-replied : {text : List ℕ} → IsQuery text s t limit → QueryReplied net s t limit before at after end → Replied net text before at after end
   query-replied {text} h replied = record { bytes = replied .bytes; put = replied .put; is = replied .is text h; short = replied .short }
 
 pub bad-replied : {net text before after : List ℕ} {at end : ℕ} → BadLine text → Put before at badLine 15 after end → Replied net text before at after end
@@ -70,29 +72,33 @@ bad-replied h line = record { bytes = badLine; put = line .put; is = reply.bad h
 
 -- ---- What was read
 
-pub read-query : {text : List ℕ} {r : QueryLine} {s t C : ℕ} → QueryRead text r → r ≡ line.Query s t C → IsQuery text s t C
-read-query {text} (query s t C h e) f = same (sym e ∙ f) h
+-- a line is read from its first byte to its last
+pub read-whole : {line : List ℕ} {r : QueryLine} → QueryRead (lineOf line 0 (length line)) r → QueryRead line r
+read-whole told = rw line-whole at told
+
+pub read-query : {text : List ℕ} {r : QueryLine} {s t limit : ℕ} → QueryRead text r → r ≡ line.Query s t limit → IsQuery text s t limit
+read-query {text} (query s t limit h e) f = same (sym e ∙ f) h
   where
-    same : {s t C s′ t′ C′ : ℕ} → line.Query s t C ≡ line.Query s′ t′ C′ → IsQuery text s t C → IsQuery text s′ t′ C′
-    same {s} {t} {C} {s′} {t′} {C′} g h = let a : s ≡ s′ = cc in let b : t ≡ t′ = cc in let c : C ≡ C′ = cc in rw (a, b, c) at h
+    same : {s t limit s′ t′ limit′ : ℕ} → line.Query s t limit ≡ line.Query s′ t′ limit′ → IsQuery text s t limit → IsQuery text s′ t′ limit′
+    same {s} {t} {limit} {s′} {t′} {limit′} g h = let a : s ≡ s′ = cc in let b : t ≡ t′ = cc in let c : limit ≡ limit′ = cc in rw (a, b, c) at h
 read-query (bad n e) f = let z : _≡_ {A = ℕ} 0 1 = cc in absurd (omega arith)
 
 -- a line that was not read as a query is bad
 pub record ReadAsQuery (r : QueryLine) : Type 0 where
   pub s : ℕ
   pub t : ℕ
-  pub C : ℕ
-  pub is : r ≡ line.Query s t C
+  pub limit : ℕ
+  pub is : r ≡ line.Query s t limit
 
 pub query-or-bad : {text : List ℕ} {r : QueryLine} → QueryRead text r → ReadAsQuery r ⊎ BadLine text
-query-or-bad (query s t C h e) = inl (record { s = s; t = t; C = C; is = e })
+query-or-bad (query s t limit h e) = inl (record { s = s; t = t; limit = limit; is = e })
 query-or-bad (bad n e) = inr n
 
 -- ---- What was answered
 
 -- an answer other than a found pair carries zeros beside its number
 pub refusal-replied :
-    {net before after : List ℕ} {s t C at end code number time units : ℕ} →
-    Answers net s t C number time units → (time ≡ 0) × (units ≡ 0) × (number ≡ 0 → ⊥) → code ≡ number →
-    Put before at (answerLine s t C code 0 0 noRoute) 68 after end → QueryReplied net s t C before at after end
+    {net before after : List ℕ} {s t limit at end code number time energy : ℕ} →
+    Answers net s t limit number time energy → (time ≡ 0) × (energy ≡ 0) × (number ≡ 0 → ⊥) → code ≡ number →
+    Put before at (answerLine s t limit code 0 0 noRoute) 68 after end → QueryReplied net s t limit before at after end
 refusal-replied answers zeros e line = refused-replied (rw e (rw (zeros .0, zeros .1) at answers)) (λ z. zeros .2 (sym e ∙ z)) line
