@@ -24,48 +24,48 @@ use Rattle.agree.specs.working.Covering.{Marking, ListRead, entryOf, Cov
 -- ---- A list that fits
 
 -- it is read once its count is
-pub list-read : {s : List ℕ} {at count : ℕ} → ListFits s at → ReadU16 s at count → ListRead s at count
+pub list-read : {labels : List ℕ} {at count : ℕ} → ListFits labels at → ReadU16 labels at count → ListRead labels at count
 list-read fits read = record { fits = fits; counted = read .is }
 
-module _ {s : List ℕ} {at : ℕ} (fits : ListFits s at) where
+module _ {labels : List ℕ} {at : ℕ} (fits : ListFits labels at) where
   -- its count stands in the file
-  pub count-inside : at + 2 ≤ length s
+  pub count-inside : at + 2 ≤ length labels
   unfolding listEnd
   count-inside = omega (arith, fits .inside)
 
-  module _ {j : ℕ} (below : j < countAt s at) where
+  module _ {j : ℕ} (below : j < countAt labels at) where
     -- and so does each entry
-    pub time-inside : at + 6 + 8 * j ≤ length s
+    pub time-inside : at + 6 + 8 * j ≤ length labels
     unfolding listEnd
     time-inside = omega (arith, fits .inside)
 
-    pub energy-inside : at + 10 + 8 * j ≤ length s
+    pub energy-inside : at + 10 + 8 * j ≤ length labels
     unfolding listEnd
     energy-inside = omega (arith, fits .inside)
 
     -- to each number of which a road's can be added
-    pub time-adds : {a x : ℕ} → a ≤ 65535 → x ≡ timeAt s at j → a + x < 2 ^ 32
+    pub time-adds : {a x : ℕ} → a ≤ 65535 → x ≡ timeAt labels at j → a + x < 2 ^ 32
     time-adds h is = omega (arith, fits .time-fits j below)
 
-    pub energy-adds : {a x : ℕ} → a ≤ 65535 → x ≡ energyAt s at j → a + x < 2 ^ 32
+    pub energy-adds : {a x : ℕ} → a ≤ 65535 → x ≡ energyAt labels at j → a + x < 2 ^ 32
     energy-adds h is = omega (arith, fits .energy-fits j below)
 
   -- a later entry has more energy
-  pub energy-rises-far : (i j : ℕ) → i < j → j < countAt s at → energyAt s at i < energyAt s at j
-  energy-rises-far = far (λ i j. energyAt s at i < energyAt s at j) (λ i j k a b. omega arith) (countAt s at) (fits .energy-rises)
+  pub energy-rises-far : (i j : ℕ) → i < j → j < countAt labels at → energyAt labels at i < energyAt labels at j
+  energy-rises-far = far (λ i j. energyAt labels at i < energyAt labels at j) (λ i j k a b. omega arith) (countAt labels at) (fits .energy-rises)
 
   -- and less time
-  pub time-falls-far : (i j : ℕ) → i < j → j < countAt s at → timeAt s at j < timeAt s at i
-  time-falls-far = far (λ i j. timeAt s at j < timeAt s at i) (λ i j k a b. omega arith) (countAt s at) (fits .time-falls)
+  pub time-falls-far : (i j : ℕ) → i < j → j < countAt labels at → timeAt labels at j < timeAt labels at i
+  time-falls-far = far (λ i j. timeAt labels at j < timeAt labels at i) (λ i j k a b. omega arith) (countAt labels at) (fits .time-falls)
 
   -- if an entry covers a sum, no other equals it
-  pub covering-alone : {sum : Weight} {i k : ℕ} → CoversAt s at sum i → EqualsAt s at sum k → k ≡ i
+  pub covering-alone : {sum : Weight} {i k : ℕ} → CoversAt labels at sum i → EqualsAt labels at sum k → k ≡ i
   covering-alone {sum} {i} {k} covers equals = pick (ℕ-discrete k i) (decLe k i)
     where
-      same-time : timeAt s at k ≡ time energy sum
+      same-time : timeAt labels at k ≡ time energy sum
       same-time = ap (time energy) (equals .is)
 
-      same-energy : energyAt s at k ≡ spent energy sum
+      same-energy : energyAt labels at k ≡ spent energy sum
       same-energy = ap (spent energy) (equals .is)
 
       pick : Dec (k ≡ i) → Dec (k ≤ i) → k ≡ i
@@ -74,33 +74,33 @@ module _ {s : List ℕ} {at : ℕ} (fits : ListFits s at) where
       pick (no apart) (no h) = absurd (omega (arith, time-falls-far i k (omega arith) (equals .in-list), covers .no-larger, same-time))
 
   -- an entry that covers a sum is one of the list
-  pub covers-member : {sum : Weight} {i : ℕ} → CoversAt s at sum i → Covered energy (listAt s at) sum
+  pub covers-member : {sum : Weight} {i : ℕ} → CoversAt labels at sum i → Covered energy (listAt labels at) sum
   covers-member {sum} {i} covers =
-      record { entry = entryOf s at i; member = tabulate-member (entryOf s at) (countAt s at) (covers .in-list); has = covers .no-larger }
+      record { entry = entryOf labels at i; member = tabulate-member (entryOf labels at) (countAt labels at) (covers .in-list); has = covers .no-larger }
 
   -- and an entry of the list that does so stands at a place
   pub record Somewhere (sum : Weight) : Type 0 where
     pub place : ℕ
-    pub covers : CoversAt s at sum place
+    pub covers : CoversAt labels at sum place
 
-  pub member-covers : {sum : Weight} → Covered energy (listAt s at) sum → Somewhere sum
-  member-covers {sum} covered = found (member-stands (entryOf s at) (countAt s at) (covered .member))
+  pub member-covers : {sum : Weight} → Covered energy (listAt labels at) sum → Somewhere sum
+  member-covers {sum} covered = found (member-stands (entryOf labels at) (countAt labels at) (covered .member))
     where
-      found : Stands (entryOf s at) (countAt s at) (covered .entry) → Somewhere sum
+      found : Stands (entryOf labels at) (countAt labels at) (covered .entry) → Somewhere sum
       found stands = record { place = stands .place; covers = record { in-list = stands .below; no-larger = rw (stands .is) at (covered .has) } }
 
 -- equal sums are covered and equalled alike
 pub covered-eq : {l : List Weight} {p q : Weight} → p ≡ q → Covered energy l p → Covered energy l q
 covered-eq e covered = rw e at covered
 
-pub equals-eq : {s : List ℕ} {own i : ℕ} {p q : Weight} → p ≡ q → EqualsAt s own p i → EqualsAt s own q i
+pub equals-eq : {labels : List ℕ} {own i : ℕ} {p q : Weight} → p ≡ q → EqualsAt labels own p i → EqualsAt labels own q i
 equals-eq e equals = rw e at equals
 
 -- ---- One entry
 
-module _ {s : List ℕ} {own count : ℕ} (read : ListRead s own count) {t e i : ℕ} (marks : List ℕ) where
+module _ {labels : List ℕ} {own count : ℕ} (read : ListRead labels own count) {t e i : ℕ} (marks : List ℕ) where
   -- an entry that does not cover the sum changes no mark
-  not-covering : (CoversAt s own (pair t e) i → ⊥) → EntryCompared s own (pair t e) i marks marks false
+  not-covering : (CoversAt labels own (pair t e) i → ⊥) → EntryCompared labels own (pair t e) i marks marks false
   not-covering not =
       record {
         decides = record { holds = λ f. absurd (true≢false (sym f)); fails = λ f. not };
@@ -109,31 +109,31 @@ module _ {s : List ℕ} {own count : ℕ} (read : ListRead s own count) {t e i :
       }
 
   -- there is no entry i
-  pub compared-behind : count ≤ i → EntryCompared s own (pair t e) i marks marks false
+  pub compared-behind : count ≤ i → EntryCompared labels own (pair t e) i marks marks false
   compared-behind h = not-covering (λ covers. omega (arith, covers .in-list, read .counted))
 
   -- it is slower
-  pub compared-slower : {own-time : ℕ} → own-time ≡ timeAt s own i → t < own-time → EntryCompared s own (pair t e) i marks marks false
+  pub compared-slower : {own-time : ℕ} → own-time ≡ timeAt labels own i → t < own-time → EntryCompared labels own (pair t e) i marks marks false
   compared-slower is h = not-covering (λ covers. omega (arith, covers .no-larger))
 
   -- it costs more
-  pub compared-dearer : {own-units : ℕ} → own-units ≡ energyAt s own i → e < own-units → EntryCompared s own (pair t e) i marks marks false
+  pub compared-dearer : {own-energy : ℕ} → own-energy ≡ energyAt labels own i → e < own-energy → EntryCompared labels own (pair t e) i marks marks false
   compared-dearer is h = not-covering (λ covers. omega (arith, covers .no-larger))
 
   -- it covers the sum, and is marked if it equals it
   pub compared-covers :
-      {own-time own-units mark : ℕ} {same-time same-energy : Bool} →
+      {own-time own-energy mark : ℕ} {same-time same-energy : Bool} →
       length marks ≡ 4096 →
       i < count →
-      own-time ≡ timeAt s own i →
+      own-time ≡ timeAt labels own i →
       own-time ≤ t →
-      own-units ≡ energyAt s own i →
-      own-units ≤ e →
+      own-energy ≡ energyAt labels own i →
+      own-energy ≤ e →
       same-time ≡ eqb own-time t →
-      same-energy ≡ eqb own-units e →
+      same-energy ≡ eqb own-energy e →
       mark ≡ cond same-time (cond same-energy 1 (getD marks i 0)) (getD marks i 0) →
-      EntryCompared s own (pair t e) i marks (set marks i mark) true
-  compared-covers {own-time} {own-units} {mark} {same-time} {same-energy} places below time-is no-slower units-are no-dearer time-test energy-test mark-is =
+      EntryCompared labels own (pair t e) i marks (set marks i mark) true
+  compared-covers {own-time} {own-energy} {mark} {same-time} {same-energy} places below time-is no-slower energy-is no-dearer time-test energy-test mark-is =
       record {
         decides = record { holds = λ f. covers; fails = λ f. absurd (true≢false f) };
         marking =
@@ -146,78 +146,78 @@ module _ {s : List ℕ} {own count : ℕ} (read : ListRead s own count) {t e i :
         kept = λ f. absurd (true≢false f);
       }
     where
-      covers : CoversAt s own (pair t e) i
+      covers : CoversAt labels own (pair t e) i
       covers = record { in-list = omega (arith, read .counted); no-larger = omega arith }
 
       inside : i < length marks
       inside = omega (arith, read .counted, read .fits .short)
 
       -- the entry that equals the sum passes both tests
-      marks-one : (k : ℕ) → EqualsAt s own (pair t e) k → mark ≡ 1
+      marks-one : (k : ℕ) → EqualsAt labels own (pair t e) k → mark ≡ 1
       marks-one k equals =
-          mark-is ∙ rw (time-test ∙ eq-eqb own-time t (time-is ∙ ap (timeAt s own) here ∙ ap (time energy) (equals .is)), energy-test ∙ eq-eqb own-units e (units-are ∙ ap (energyAt s own) here ∙ ap (spent energy) (equals .is)))
+          mark-is ∙ rw (time-test ∙ eq-eqb own-time t (time-is ∙ ap (timeAt labels own) here ∙ ap (time energy) (equals .is)), energy-test ∙ eq-eqb own-energy e (energy-is ∙ ap (energyAt labels own) here ∙ ap (spent energy) (equals .is)))
         where
           here : i ≡ k
           here = sym (covering-alone (read .fits) covers equals)
 
       -- a mark that changed is that of an equal entry
-      changed : (a b : Bool) → same-time ≡ a → same-energy ≡ b → (mark ≡ getD marks i 0) ⊎ EqualsAt s own (pair t e) i
+      changed : (a b : Bool) → same-time ≡ a → same-energy ≡ b → (mark ≡ getD marks i 0) ⊎ EqualsAt labels own (pair t e) i
       changed true true p q =
-          inr (record { in-list = covers .in-list; is = λ j. pair (equal-time j) (equal-units j) })
+          inr (record { in-list = covers .in-list; is = λ j. pair (equal-time j) (equal-energy j) })
         where
-          equal-time : timeAt s own i ≡ t
+          equal-time : timeAt labels own i ≡ t
           equal-time = sym time-is ∙ eqb-true own-time t (sym time-test ∙ p)
 
-          equal-units : energyAt s own i ≡ e
-          equal-units = sym units-are ∙ eqb-true own-units e (sym energy-test ∙ q)
+          equal-energy : energyAt labels own i ≡ e
+          equal-energy = sym energy-is ∙ eqb-true own-energy e (sym energy-test ∙ q)
       changed true false p q = inl (mark-is ∙ rw (p, q))
       changed false b p q = inl (mark-is ∙ rw p)
 
-      pick : (k : ℕ) → Dec (k ≡ i) → (getD (set marks i mark) k 0 ≡ getD marks k 0) ⊎ EqualsAt s own (pair t e) k
+      pick : (k : ℕ) → Dec (k ≡ i) → (getD (set marks i mark) k 0 ≡ getD marks k 0) ⊎ EqualsAt labels own (pair t e) k
       pick k (yes same) = rw same (⊎-elim (λ kept. inl (getD-set-same marks i mark 0 inside ∙ kept)) inr (changed same-time same-energy refl refl))
       pick k (no apart) = inl (getD-set-other marks i k mark 0 apart)
 
 -- where it does not, the marks keep their places
 pub kept-places :
-    {s : List ℕ} {own i : ℕ} {sum : Weight} {marks later : List ℕ} {answer : Bool} → EntryCompared s own sum i marks later answer →
+    {labels : List ℕ} {own i : ℕ} {sum : Weight} {marks later : List ℕ} {answer : Bool} → EntryCompared labels own sum i marks later answer →
     answer ≡ false → length marks ≡ 4096 → length later ≡ 4096
 kept-places compared failed places = ap length (compared .kept failed) ∙ places
 
 -- ---- The first entry that is no slower
 
 -- The entries from the hint up to i are slower
-pub record Slower (s : List ℕ) (own t hint i : ℕ) : Type 0 where
+pub record Slower (labels : List ℕ) (own t hint i : ℕ) : Type 0 where
   pub from : hint ≤ i
-  pub in-list : i ≤ countAt s own
-  pub slow : (k : ℕ) → hint ≤ k → k < i → t < timeAt s own k
+  pub in-list : i ≤ countAt labels own
+  pub slow : (k : ℕ) → hint ≤ k → k < i → t < timeAt labels own k
 
 -- at the hint
-pub slower-none : {s : List ℕ} {own count t hint : ℕ} → ListRead s own count → hint ≤ count → Slower s own t hint hint
+pub slower-none : {labels : List ℕ} {own count t hint : ℕ} → ListRead labels own count → hint ≤ count → Slower labels own t hint hint
 slower-none read h = record { from = omega arith; in-list = omega (arith, read .counted); slow = λ k from below. absurd (omega arith) }
 
-module _ {s : List ℕ} {own t hint i own-time : ℕ} {quick : Bool} (so : Slower s own t hint i) (time-is : own-time ≡ timeAt s own i) (test : quick ≡ leb own-time t) where
+module _ {labels : List ℕ} {own t hint i own-time : ℕ} {quick : Bool} (so : Slower labels own t hint i) (time-is : own-time ≡ timeAt labels own i) (test : quick ≡ leb own-time t) where
   -- one more is slower
-  pub slower-more : quick ≡ false → i < countAt s own → Slower s own t hint (i + 1)
+  pub slower-more : quick ≡ false → i < countAt labels own → Slower labels own t hint (i + 1)
   slower-more failed h =
       record { from = omega (arith, so .from); in-list = omega arith; slow = λ k from below. pick k from below (ℕ-discrete k i) }
     where
-      pick : (k : ℕ) → hint ≤ k → k < i + 1 → Dec (k ≡ i) → t < timeAt s own k
+      pick : (k : ℕ) → hint ≤ k → k < i + 1 → Dec (k ≡ i) → t < timeAt labels own k
       pick k from below (yes same) = rw same (omega (arith, leb-false own-time t (sym test ∙ failed)))
       pick k from below (no apart) = so .slow k from (omega arith)
 
   -- the first that is not
-  pub slower-stops : quick ≡ true → QuickFrom s own t hint i
+  pub slower-stops : quick ≡ true → QuickFrom labels own t hint i
   slower-stops held = record { from = so .from; in-list = so .in-list; slow = so .slow; quick = λ h. omega (arith, leb-true own-time t (sym test ∙ held)) }
 
 -- all are slower
-pub slower-end : {s : List ℕ} {own count t hint i : ℕ} → ListRead s own count → Slower s own t hint i → count ≤ i → QuickFrom s own t hint i
+pub slower-end : {labels : List ℕ} {own count t hint i : ℕ} → ListRead labels own count → Slower labels own t hint i → count ≤ i → QuickFrom labels own t hint i
 slower-end read so h = record { from = so .from; in-list = so .in-list; slow = so .slow; quick = λ below. absurd (omega (arith, read .counted)) }
 
 -- ---- One sum
 
-module _ {s : List ℕ} {own count : ℕ} (read : ListRead s own count) {sum : Weight} {next : ℕ} (behind : Behind s own next (spent energy sum)) {marks between : List ℕ} {answer : Bool} (first : EntryCompared s own sum next marks between answer) where
+module _ {labels : List ℕ} {own count : ℕ} (read : ListRead labels own count) {sum : Weight} {next : ℕ} (behind : Behind labels own next (spent energy sum)) {marks between : List ℕ} {answer : Bool} (first : EntryCompared labels own sum next marks between answer) where
   -- an entry that covers the sum
-  found : {i : ℕ} {later : List ℕ} → CoversAt s own sum i → Marking (EqualsAt s own sum) marks later → SumCompared s own sum marks later i
+  found : {i : ℕ} {later : List ℕ} → CoversAt labels own sum i → Marking (EqualsAt labels own sum) marks later → SumCompared labels own sum marks later i
   found covers marking =
       record {
         in-list = omega (arith, covers .in-list);
@@ -227,16 +227,16 @@ module _ {s : List ℕ} {own count : ℕ} (read : ListRead s own count) {sum : W
       }
 
   -- the next entry
-  pub sum-next : answer ≡ true → SumCompared s own sum marks between next
+  pub sum-next : answer ≡ true → SumCompared labels own sum marks between next
   sum-next held = found (first .decides .holds held) (first .marking held)
 
-  module _ (failed : answer ≡ false) {r : ℕ} {later : List ℕ} {covered : Bool} (second : EntryCompared s own sum r between later covered) where
+  module _ (failed : answer ≡ false) {r : ℕ} {later : List ℕ} {covered : Bool} (second : EntryCompared labels own sum r between later covered) where
     -- the first that is no slower
-    pub sum-quick : covered ≡ true → SumCompared s own sum marks later r
+    pub sum-quick : covered ≡ true → SumCompared labels own sum marks later r
     sum-quick held = found (second .decides .holds held) (rw (first .kept failed) at (second .marking held))
 
     -- or none: earlier entries are too slow, later ones cost more
-    pub sum-uncovered : {hint : ℕ} → hint ≡ next - 1 → QuickFrom s own (time energy sum) hint r → covered ≡ false → SumCompared s own sum marks later count
+    pub sum-uncovered : {hint : ℕ} → hint ≡ next - 1 → QuickFrom labels own (time energy sum) hint r → covered ≡ false → SumCompared labels own sum marks later count
     sum-uncovered {hint} hint-is quick refused =
         record {
           in-list = omega (arith, read .counted);
@@ -246,25 +246,25 @@ module _ {s : List ℕ} {own count : ℕ} (read : ListRead s own count) {sum : W
         }
       where
         -- r has more energy than the sum, if it is an entry
-        dearer : r < countAt s own → spent energy sum < energyAt s own r
-        dearer h = pick (decLe (energyAt s own r) (spent energy sum))
+        dearer : r < countAt labels own → spent energy sum < energyAt labels own r
+        dearer h = pick (decLe (energyAt labels own r) (spent energy sum))
           where
-            pick : Dec (energyAt s own r ≤ spent energy sum) → spent energy sum < energyAt s own r
+            pick : Dec (energyAt labels own r ≤ spent energy sum) → spent energy sum < energyAt labels own r
             pick (yes cheap) = absurd (second .decides .fails refused (record { in-list = h; no-larger = (cheap, quick .quick h) }))
             pick (no dear) = omega arith
 
         -- so an entry that covers the sum stands before r
-        earlier : (i : ℕ) → CoversAt s own sum i → i < r
+        earlier : (i : ℕ) → CoversAt labels own sum i → i < r
         earlier i covers = pick (decLe r i) (ℕ-discrete i r)
           where
             pick : Dec (r ≤ i) → Dec (i ≡ r) → i < r
             pick (no h) d = omega arith
-            pick (yes h) (yes same) = absurd (omega (arith, dearer (omega (arith, covers .in-list)), covers .no-larger, ap (energyAt s own) same))
+            pick (yes h) (yes same) = absurd (omega (arith, dearer (omega (arith, covers .in-list)), covers .no-larger, ap (energyAt labels own) same))
             pick (yes h) (no apart) =
                 absurd (omega (arith, dearer (omega (arith, covers .in-list)), energy-rises-far (read .fits) r i (omega arith) (covers .in-list), covers .no-larger))
 
         -- and before the hint
-        too-slow : (i : ℕ) → CoversAt s own sum i → i < r → i < hint
+        too-slow : (i : ℕ) → CoversAt labels own sum i → i < r → i < hint
         too-slow i covers h = pick (decLe hint i)
           where
             pick : Dec (hint ≤ i) → i < hint
@@ -272,16 +272,16 @@ module _ {s : List ℕ} {own count : ℕ} (read : ListRead s own count) {sum : W
             pick (no before) = omega arith
 
         -- where the hint covers the sum, or is too slow and i is slower still
-        before-hint : (i : ℕ) → CoversAt s own sum i → i < hint → ⊥
+        before-hint : (i : ℕ) → CoversAt labels own sum i → i < hint → ⊥
         before-hint i covers h = pick (ℕ-discrete hint r)
           where
-            cheap : energyAt s own hint ≤ spent energy sum
+            cheap : energyAt labels own hint ≤ spent energy sum
             cheap = rw hint-is (behind .cheap (omega arith))
 
-            hint-in-list : hint < countAt s own
+            hint-in-list : hint < countAt labels own
             hint-in-list = omega (arith, behind .in-list)
 
             pick : Dec (hint ≡ r) → ⊥
-            pick (yes same) = omega (arith, dearer (omega (arith, hint-in-list)), cheap, ap (energyAt s own) same)
+            pick (yes same) = omega (arith, dearer (omega (arith, hint-in-list)), cheap, ap (energyAt labels own) same)
             pick (no apart) =
                 omega (arith, quick .slow hint (omega arith) (omega (arith, quick .from)), time-falls-far (read .fits) i hint h hint-in-list, covers .no-larger)

@@ -11,13 +11,13 @@ use Rattle.stored.specs.Right.{EveryListRight}
 use Rattle.stored.specs.working.Formed.{FilesFit}
 use Rattle.stored.proofs.Passed.{roads-two-way, roads-joined, parents-forest, lists-ordered}
 
-module _ {net s : List ℕ} (beside : FilesFit net s) where
+module _ {net labels : List ℕ} (beside : FilesFit net labels) where
   -- the test road by road decides whether every list is right
-  pub agreeing-is-right : AllAgree (networkOf net) (parentsOf s) (stored s) ↔ EveryListRight net s
+  pub agreeing-is-right : AllAgree (networkOf net) (parentsOf labels) (stored labels) ↔ EveryListRight net labels
   agreeing-is-right = (
     λ all. record { right = λ above. exact .0 all .right above },
     λ every. exact .1 (record { right = λ above. every .right above }),
   )
     where
-      exact : AllAgree (networkOf net) (parentsOf s) (stored s) ↔ AllRight (networkOf net) (parentsOf s) (stored s)
+      exact : AllAgree (networkOf net) (parentsOf labels) (stored labels) ↔ AllRight (networkOf net) (parentsOf labels) (stored labels)
       exact = label-test-exact number-lawful (roads-two-way beside) (roads-joined beside) (parents-forest beside) (lists-ordered beside)

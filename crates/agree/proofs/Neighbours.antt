@@ -28,45 +28,45 @@ neighbour-related : {parent : Parents} {v u w : ℕ} → Above parent u v → Re
 neighbour-related h (inl k) = inr (ancestor-trans (inr h) k)
 neighbour-related h (inr k) = ancestors-related k (inr h)
 
-module _ {net s : List ℕ} (beside : FilesFit net s) where
+module _ {net labels : List ℕ} (beside : FilesFit net labels) where
   -- no junction is above itself, nor two above each other
-  not-same : {x y : ℕ} → x ≡ y → Above (parentsOf s) x y → ⊥
+  not-same : {x y : ℕ} → x ≡ y → Above (parentsOf labels) x y → ⊥
   not-same e h = above-irrefl (parents-forest beside) (rw e at h)
 
-  not-both : {x y : ℕ} → Above (parentsOf s) x y → Above (parentsOf s) y x → ⊥
+  not-both : {x y : ℕ} → Above (parentsOf labels) x y → Above (parentsOf labels) y x → ⊥
   not-both h k = above-irrefl (parents-forest beside) (above-trans h k)
 
 -- ---- What is left
 
 -- The entries of a list are what is left from w to u
-pub record Leaves (net s : List ℕ) (w u : ℕ) (list : List Weight) : Type 0 where
-  pub entry-left : {q : Weight} → List·Memᴰ q list → Left net s w u q
-  pub left-entry : {q : Weight} → Left net s w u q → List·Memᴰ q list
+pub record Leaves (net labels : List ℕ) (w u : ℕ) (list : List Weight) : Type 0 where
+  pub entry-left : {q : Weight} → List·Memᴰ q list → Left net labels w u q
+  pub left-entry : {q : Weight} → Left net labels w u q → List·Memᴰ q list
 
-module _ {net s : List ℕ} (beside : FilesFit net s) {w u : ℕ} where
+module _ {net labels : List ℕ} (beside : FilesFit net labels) {w u : ℕ} where
   -- at the ancestor itself nothing is left
-  pub leaves-nothing : w ≡ u → Leaves net s w u (pair 0 0 ∷ [])
+  pub leaves-nothing : w ≡ u → Leaves net labels w u (pair 0 0 ∷ [])
   leaves-nothing e = record { entry-left = λ m. arrived e (List·Memᴰ·eq-of-singleton m); left-entry = λ left. held left }
     where
-      held : {q : Weight} → Left net s w u q → List·Memᴰ q (pair 0 0 ∷ [])
+      held : {q : Weight} → Left net labels w u q → List·Memᴰ q (pair 0 0 ∷ [])
       held (arrived f none) = List·Memᴰ·head none
       held (below k m) = absurd (not-same beside (sym e) k)
       held (above k m) = absurd (not-same beside e k)
 
   -- below it the neighbour has the list
-  leaves-below : Above (parentsOf s) u w → Leaves net s w u (stored s w u)
+  leaves-below : Above (parentsOf labels) u w → Leaves net labels w u (stored labels w u)
   leaves-below k = record { entry-left = λ m. below k m; left-entry = λ left. held left }
     where
-      held : {q : Weight} → Left net s w u q → List·Memᴰ q (stored s w u)
+      held : {q : Weight} → Left net labels w u q → List·Memᴰ q (stored labels w u)
       held (arrived f none) = absurd (not-same beside (sym f) k)
       held (below l m) = m
       held (above l m) = absurd (not-both beside k l)
 
   -- above it the ancestor has the list
-  leaves-above : Above (parentsOf s) w u → Leaves net s w u (stored s u w)
+  leaves-above : Above (parentsOf labels) w u → Leaves net labels w u (stored labels u w)
   leaves-above k = record { entry-left = λ m. above k m; left-entry = λ left. held left }
     where
-      held : {q : Weight} → Left net s w u q → List·Memᴰ q (stored s u w)
+      held : {q : Weight} → Left net labels w u q → List·Memᴰ q (stored labels u w)
       held (arrived f none) = absurd (not-same beside f k)
       held (below l m) = absurd (not-both beside k l)
       held (above l m) = m
@@ -74,17 +74,17 @@ module _ {net s : List ℕ} (beside : FilesFit net s) {w u : ℕ} where
 -- ---- The list that is stored
 
 -- The list at a byte fits, and is what is left from w to u
-pub record RestAt (net s : List ℕ) (w u at : ℕ) : Type 0 where
-  pub fits : ListFits s at
-  pub leaves : Leaves net s w u (listAt s at)
+pub record RestAt (net labels : List ℕ) (w u at : ℕ) : Type 0 where
+  pub fits : ListFits labels at
+  pub leaves : Leaves net labels w u (listAt labels at)
 
-module _ {net s places : List ℕ} {v u k w : ℕ} (input : RoadInput net s places v u k) (leads-to : w ≡ otherEnd net v k) where
+module _ {net labels places : List ℕ} {v u k w : ℕ} (input : RoadInput net labels places v u k) (leads-to : w ≡ otherEnd net v k) where
   -- the road as an arc
   pub the-arc : RoadArc net v w k (pair (roadTime net k) (roadEnergy net k))
   the-arc = rw leads-to (touches-arc (input .beside .network) v k (input .stands) (input .here))
 
   -- the neighbour is a junction
-  on-map : w < junctionsOf s
+  on-map : w < junctionsOf labels
   on-map = omega (arith, leads-to, other-on-map (input .beside .network) v k (input .stands) (input .here), input .beside .one-map)
 
   -- and has a place in the table, as the ancestor has
@@ -93,11 +93,11 @@ module _ {net s places : List ℕ} {v u k w : ℕ} (input : RoadInput net s plac
       omega (arith, on-map, above-at (input .beside .formed .parents) (input .above) .on-map, input .beside .formed .parents .few-junctions)
 
   -- where it is not the ancestor itself, the table has the byte of the list
-  pub neighbour-rest : {at : ℕ} → (w ≡ u → ⊥) → at ≡ getD places w 0 → RestAt net s w u at
+  pub neighbour-rest : {at : ℕ} → (w ≡ u → ⊥) → at ≡ getD places w 0 → RestAt net labels w u at
   unfolding stored
   neighbour-rest {at} apart at-is = pick (neighbour-related (input .above) (roads-joined (input .beside) .joined the-arc))
     where
-      pick : Related (parentsOf s) w u → RestAt net s w u at
+      pick : Related (parentsOf labels) w u → RestAt net labels w u at
       pick (inl (inl e)) = absurd (apart e)
       pick (inl (inr k)) =
           rw (at-is ∙ input .places-for .above w on-map k) (record { fits = stored-fits (input .beside .formed) k; leaves = leaves-above (input .beside) k })

@@ -1,14 +1,14 @@
 // The test of one stored list: does it agree with the lists one road further?
 use crate::cover::cover_road;
 use crate::cover::cover_stored;
-use bytes::u16_at;
-use bytes::u32_at;
+use network::header::roads_of;
 use network::roads::first_road;
 use network::roads::next_road;
 use network::roads::other_end;
 use network::roads::road_energy;
 use network::roads::road_time;
 use stored::place::number_of;
+use stored::stored::count_at;
 ghost use mathlib.Core.Path.{_≡_};
 ghost use mathlib.Core.Bool.{true};
 ghost use Prim.Native.Nat.{_≤_};
@@ -45,9 +45,9 @@ fn road_agrees(
 {
     let w = other_end(net, v, k);
     let time = road_time(net, k);
-    let units = road_energy(net, k);
+    let energy = road_energy(net, k);
     if w == u {
-        return cover_road(labels, own.at, own.count, time, units, marks);
+        return cover_road(labels, own.at, own.count, time, energy, marks);
     }
     cover_stored(
         labels,
@@ -55,7 +55,7 @@ fn road_agrees(
         own.at,
         own.count,
         time,
-        units,
+        energy,
         marks,
     )
 }
@@ -94,8 +94,8 @@ pub fn list_agrees(
     ensures { λ r. ⌜ (r ≡ true → Unmarked (now (marks .exit))) ⌝ }
 {
     let at = number_of(places, v);
-    let count = u16_at(labels, at) as usize;
-    let roads = u32_at(net, 8) as usize;
+    let count = count_at(labels, at) as usize;
+    let roads = roads_of(net) as usize;
     let own = OwnList {
         at: at,
         count: count,

@@ -1,8 +1,8 @@
 // The covering half of the test: is each sum of a road and an entry of one stored list covered by another? Both lists are read
 // where they stand in the label file; `own` is the byte of the list that covers.
-use bytes::u16_at;
 use paths::energy::Energy;
 use paths::seconds::Seconds;
+use stored::stored::count_at;
 use stored::stored::energy_at;
 use stored::stored::time_at;
 ghost use mathlib.Core.Path.{_≡_};
@@ -44,19 +44,19 @@ fn mark_after(mark: u8, same_time: bool, same_energy: bool) -> u8
     mark
 }
 
-// Whether own entry i covers the sum (time, units); it is marked where it equals the sum.
+// Whether own entry i covers the sum (time, energy); it is marked where it equals the sum.
 fn covers_at(
     labels: &[u8],
     own: usize,
     own_count: usize,
     i: usize,
     time: Seconds,
-    units: Energy,
+    energy: Energy,
     marks: &mut [u8; 4096],
 ) -> bool
     requires { ⌜ ListRead (now labels) own «own_count» ⌝ }
     requires { ⌜ length (now marks) ≡ 4096 ⌝ }
-    ensures { λ r. ⌜ EntryCompared (now (labels .entry)) own (pair (time .0) (units .0)) i (now (marks .entry)) (now (marks .exit)) r ⌝ }
+    ensures { λ r. ⌜ EntryCompared (now (labels .entry)) own (pair (time .0) (energy .0)) i (now (marks .entry)) (now (marks .exit)) r ⌝ }
 {
     if i >= own_count {
         return false;
@@ -65,11 +65,11 @@ fn covers_at(
     if time.below(own_time) {
         return false;
     }
-    let own_units = energy_at(labels, own, i);
-    if units.below(own_units) {
+    let own_energy = energy_at(labels, own, i);
+    if energy.below(own_energy) {
         return false;
     }
-    marks[i] = mark_after(marks[i], own_time.equals(time), own_units.equals(units));
+    marks[i] = mark_after(marks[i], own_time.equals(time), own_energy.equals(energy));
     true
 }
 
@@ -83,7 +83,7 @@ fn before(next: usize) -> usize
     next - 1
 }
 
-// The own entry that covers the sum (time, units), or the count if none does; the entry that equals the sum is marked. Often it
+// The own entry that covers the sum (time, energy), or the count if none does; the entry that equals the sum is marked. Often it
 // is the next entry; else the first that is no slower decides: earlier ones are too slow, and later ones cost more.
 fn cover_sum(
     labels: &[u8],
@@ -91,19 +91,19 @@ fn cover_sum(
     own_count: usize,
     next: usize,
     time: Seconds,
-    units: Energy,
+    energy: Energy,
     marks: &mut [u8; 4096],
 ) -> usize
     requires { ⌜ ListRead (now labels) own «own_count» ⌝ }
-    requires { ⌜ Behind (now labels) own next (units .0) ⌝ }
+    requires { ⌜ Behind (now labels) own next (energy .0) ⌝ }
     requires { ⌜ length (now marks) ≡ 4096 ⌝ }
-    ensures { λ r. ⌜ SumCompared (now (labels .entry)) own (pair (time .0) (units .0)) (now (marks .entry)) (now (marks .exit)) r ⌝ }
+    ensures { λ r. ⌜ SumCompared (now (labels .entry)) own (pair (time .0) (energy .0)) (now (marks .entry)) (now (marks .exit)) r ⌝ }
 {
-    if covers_at(labels, own, own_count, next, time, units, marks) {
+    if covers_at(labels, own, own_count, next, time, energy, marks) {
         return next;
     }
     let quick = quick_from(labels, own, own_count, time, before(next));
-    if covers_at(labels, own, own_count, quick, time, units, marks) {
+    if covers_at(labels, own, own_count, quick, time, energy, marks) {
         return quick;
     }
     own_count
@@ -162,7 +162,7 @@ pub fn cover_stored(
     ensures { λ r.
         ⌜ Covering (now (labels .entry)) own (pair («arc_time» .0) («arc_energy» .0)) (listAt (now (labels .entry)) at) (now (marks .entry)) (now (marks .exit)) r ⌝ }
 {
-    let rest_count = u16_at(labels, at) as usize;
+    let rest_count = count_at(labels, at) as usize;
     if rest_count == 0 {
         return true;
     }
@@ -171,8 +171,8 @@ pub fn cover_stored(
     let mut j = 0;
     while j < rest_count {
         let time = sum_time(labels, at, arc_time, j);
-        let units = sum_energy(labels, at, arc_energy, j);
-        let i = cover_sum(labels, own, own_count, next, time, units, marks);
+        let energy = sum_energy(labels, at, arc_energy, j);
+        let i = cover_sum(labels, own, own_count, next, time, energy, marks);
         if i >= own_count {
             return false;
         }

@@ -24,43 +24,43 @@ use Rattle.preorder.specs.working.Numbered.{Numbered, junctionAt, spotOf, sizeO
 use Rattle.agree.specs.working.Agreeing.{PlacesFor}
 use Rattle.exact.specs.working.Sweep.{Swept, Noted, MovedOn, BlockOf}
 
-module _ {s : List ℕ} (formed : Formed s) {tables : List ℕ} (numbered : Numbered s tables) where
+module _ {labels : List ℕ} (formed : Formed labels) {tables : List ℕ} (numbered : Numbered labels tables) where
   -- ---- The block of a junction
 
   -- a junction's ancestors stand before it
-  spots-rise : {p c : ℕ} → Above (parentsOf s) p c → spotOf tables p < spotOf tables c
+  spots-rise : {p c : ℕ} → Above (parentsOf labels) p c → spotOf tables p < spotOf tables c
   spots-rise {p} {c} above = pick (ℕ-discrete (spotOf tables p) (spotOf tables c))
     where
-      p-on-map : p < junctionsOf s
+      p-on-map : p < junctionsOf labels
       p-on-map = above-at (formed .parents) above .on-map
 
-      c-on-map : c < junctionsOf s
-      c-on-map = below-on-map s above
+      c-on-map : c < junctionsOf labels
+      c-on-map = below-on-map labels above
 
       -- two junctions at one spot would be one
       same : spotOf tables p ≡ spotOf tables c → p ≡ c
       same e = sym (numbered .at-spot p p-on-map) ∙ ap (λ i. junctionAt tables i) e ∙ numbered .at-spot c c-on-map
 
       pick : Dec (spotOf tables p ≡ spotOf tables c) → spotOf tables p < spotOf tables c
-      pick (yes e) = absurd (omega (arith, above-shallower s (formed .parents .ends) above, ap (depthOf s) (same e)))
+      pick (yes e) = absurd (omega (arith, above-shallower labels (formed .parents .ends) above, ap (depthOf labels) (same e)))
       pick (no apart) = omega (arith, numbered .in-block p c p-on-map c-on-map (inr above) .0)
 
   -- and before itself a junction does not stand
-  ancestor-spot : {p c : ℕ} → Ancestor (parentsOf s) p c → spotOf tables p ≤ spotOf tables c
+  ancestor-spot : {p c : ℕ} → Ancestor (parentsOf labels) p c → spotOf tables p ≤ spotOf tables c
   ancestor-spot a = ⊎-elim (λ e. omega (arith, ap (λ x. spotOf tables x) e)) (λ above. omega (arith, spots-rise above)) a
 
-  module _ {i u size : ℕ} (inside : i < junctionsOf s) (u-is : u ≡ junctionAt tables i) (size-is : size ≡ sizeOf tables u) where
-    pub swept-on-map : u < junctionsOf s
+  module _ {i u size : ℕ} (inside : i < junctionsOf labels) (u-is : u ≡ junctionAt tables i) (size-is : size ≡ sizeOf tables u) where
+    pub swept-on-map : u < junctionsOf labels
     swept-on-map = omega (arith, u-is, numbered .on-map i inside)
 
     spot-is : spotOf tables u ≡ i
     spot-is = ap (λ x. spotOf tables x) u-is ∙ numbered .spot-of i inside
 
-    pub block-end : i + size ≤ junctionsOf s
+    pub block-end : i + size ≤ junctionsOf labels
     block-end = omega (arith, numbered .block-inside u swept-on-map, spot-is)
 
     -- the junctions right behind u are those below it
-    pub block-of : BlockOf s tables u (i + 1) (i + size)
+    pub block-of : BlockOf labels tables u (i + 1) (i + size)
     block-of =
         record {
           places = numbered .places;
@@ -72,16 +72,16 @@ module _ {s : List ℕ} (formed : Formed s) {tables : List ℕ} (numbered : Numb
           below = λ j from to. proper j from to (related j from to);
           all =
               λ v above.
-              (omega (arith, spots-rise above, spot-is), omega (arith, numbered .in-block u v swept-on-map (below-on-map s above) (inr above) .1, spot-is));
+              (omega (arith, spots-rise above, spot-is), omega (arith, numbered .in-block u v swept-on-map (below-on-map labels above) (inr above) .1, spot-is));
         }
       where
-        related : (j : ℕ) → i + 1 ≤ j → j < i + size → Ancestor (parentsOf s) u (junctionAt tables j)
+        related : (j : ℕ) → i + 1 ≤ j → j < i + size → Ancestor (parentsOf labels) u (junctionAt tables j)
         related j from to =
             let on = numbered .on-map j (omega (arith, block-end)) in
             let spot = numbered .spot-of j (omega (arith, block-end)) in
             numbered .block-below u (junctionAt tables j) swept-on-map on (omega (arith, spot, spot-is)) (omega (arith, spot, spot-is))
 
-        proper : (j : ℕ) → i + 1 ≤ j → j < i + size → Ancestor (parentsOf s) u (junctionAt tables j) → Above (parentsOf s) u (junctionAt tables j)
+        proper : (j : ℕ) → i + 1 ≤ j → j < i + size → Ancestor (parentsOf labels) u (junctionAt tables j) → Above (parentsOf labels) u (junctionAt tables j)
         proper j from to a =
             ⊎-elim
             (λ e. absurd (omega (arith, ap (λ x. spotOf tables x) e, spot-is, numbered .spot-of j (omega (arith, block-end)))))
@@ -90,30 +90,30 @@ module _ {s : List ℕ} (formed : Formed s) {tables : List ℕ} (numbered : Numb
 
     -- ---- Before its turn
 
-    module _ {places : List ℕ} (swept : Swept s tables (i + 1) places) where
+    module _ {places : List ℕ} (swept : Swept labels tables (i + 1) places) where
       -- the junctions below u stand at their lists for u
-      waits-for : {v : ℕ} → Above (parentsOf s) u v → getD places v 0 ≡ listPlace s v u
+      waits-for : {v : ℕ} → Above (parentsOf labels) u v → getD places v 0 ≡ listPlace labels v u
       unfolding listPlace
       waits-for {v} above =
-          swept .stands v (child .branch) (below-on-map s above) (child .towards) (omega (arith, spots-rise up, spot-is)) earlier ∙
-          ap (λ k. placeOf s (listsBefore s v + k)) (omega (arith, deeper))
+          swept .stands v (child .branch) (below-on-map labels above) (child .towards) (omega (arith, spots-rise up, spot-is)) earlier ∙
+          ap (λ k. placeOf labels (listsBefore labels v + k)) (omega (arith, deeper))
         where
-          child : Rattle.paths.proofs.Forest.ChildTowards (parentsOf s) u v
+          child : Rattle.paths.proofs.Forest.ChildTowards (parentsOf labels) u v
           child = child-towards above
 
-          up : Above (parentsOf s) u (child .branch)
+          up : Above (parentsOf labels) u (child .branch)
           up = Above.parent-is (child .hangs)
 
-          deeper : depthOf s (child .branch) ≡ suc (depthOf s u)
+          deeper : depthOf labels (child .branch) ≡ suc (depthOf labels u)
           deeper =
-              let has = parents-some s (child .hangs) in
-              depth-parent s (child .branch) (has .no-root) (formed .parents .ends (child .branch) (has .on-map)) ∙ ap (λ x. suc (depthOf s x)) (has .parent)
+              let has = parents-some labels (child .hangs) in
+              depth-parent labels (child .branch) (has .no-root) (formed .parents .ends (child .branch) (has .on-map)) ∙ ap (λ x. suc (depthOf labels x)) (has .parent)
 
-          earlier : (p : ℕ) → Above (parentsOf s) p (child .branch) → spotOf tables p < i + 1
+          earlier : (p : ℕ) → Above (parentsOf labels) p (child .branch) → spotOf tables p < i + 1
           earlier p above-child = omega (arith, ancestor-spot (ancestor-of-parent (child .hangs) above-child), spot-is)
 
       -- with u's own lists noted, the places are those of the lists for u
-      pub noted-places : (start : ℕ) {after : List ℕ} → Noted s u (set places u start) after → PlacesFor s u after
+      pub noted-places : (start : ℕ) {after : List ℕ} → Noted labels u (set places u start) after → PlacesFor labels u after
       noted-places start noted =
           record {
             places-length = noted .one-length;
@@ -127,32 +127,32 @@ module _ {s : List ℕ} (formed : Formed s) {tables : List ℕ} (numbered : Numb
       -- ---- After its turn
 
       -- u is at its first list, the junctions below it are one list further, and the others that were swept are where they were
-      module _ {after : List ℕ} (own : getD after u 0 ≡ placeOf s (listsBefore s u))
-          (moved : (v : ℕ) → Above (parentsOf s) u v → getD after v 0 ≡ listEnd s (getD places v 0))
-          (others : (v : ℕ) → v < junctionsOf s → (Ancestor (parentsOf s) u v → ⊥) → (Above (parentsOf s) v u → ⊥) → getD after v 0 ≡ getD places v 0)
+      module _ {after : List ℕ} (own : getD after u 0 ≡ placeOf labels (listsBefore labels u))
+          (moved : (v : ℕ) → Above (parentsOf labels) u v → getD after v 0 ≡ listEnd labels (getD places v 0))
+          (others : (v : ℕ) → v < junctionsOf labels → (Ancestor (parentsOf labels) u v → ⊥) → (Above (parentsOf labels) v u → ⊥) → getD after v 0 ≡ getD places v 0)
           (after-length : length after ≡ 1024) where
-        pub swept-more : Swept s tables i after
+        pub swept-more : Swept labels tables i after
         unfolding listPlace
         swept-more = record { places-length = after-length; stands = λ v c on-map a from topmost. pick v c on-map a from topmost (ℕ-discrete (spotOf tables c) i) }
           where
             -- the topmost swept ancestor is u
-            at-top : (v : ℕ) → Ancestor (parentsOf s) u v → getD after v 0 ≡ placeOf s (listsBefore s v + (depthOf s v - depthOf s u))
+            at-top : (v : ℕ) → Ancestor (parentsOf labels) u v → getD after v 0 ≡ placeOf labels (listsBefore labels v + (depthOf labels v - depthOf labels u))
             at-top v a =
                 ⊎-elim
-                (λ e. ap (λ x. getD after x 0) (sym e) ∙ own ∙ ap (λ x. placeOf s (listsBefore s x)) e ∙ ap (placeOf s) (omega (arith, ap (depthOf s) e)))
+                (λ e. ap (λ x. getD after x 0) (sym e) ∙ own ∙ ap (λ x. placeOf labels (listsBefore labels x)) e ∙ ap (placeOf labels) (omega (arith, ap (depthOf labels) e)))
                 (λ above.
-                moved v above ∙ ap (listEnd s) (waits-for above) ∙ sym (place-next s (listsBefore s v + (depthOf s v - depthOf s u - 1))) ∙
-                ap (placeOf s) (omega (arith, above-shallower s (formed .parents .ends) above)))
+                moved v above ∙ ap (listEnd labels) (waits-for above) ∙ sym (place-next labels (listsBefore labels v + (depthOf labels v - depthOf labels u - 1))) ∙
+                ap (placeOf labels) (omega (arith, above-shallower labels (formed .parents .ends) above)))
                 a
 
             pick :
-                (v c : ℕ) → v < junctionsOf s → Ancestor (parentsOf s) c v → i ≤ spotOf tables c →
-                ((p : ℕ) → Above (parentsOf s) p c → spotOf tables p < i) → Dec (spotOf tables c ≡ i) →
-                getD after v 0 ≡ placeOf s (listsBefore s v + (depthOf s v - depthOf s c))
+                (v c : ℕ) → v < junctionsOf labels → Ancestor (parentsOf labels) c v → i ≤ spotOf tables c →
+                ((p : ℕ) → Above (parentsOf labels) p c → spotOf tables p < i) → Dec (spotOf tables c ≡ i) →
+                getD after v 0 ≡ placeOf labels (listsBefore labels v + (depthOf labels v - depthOf labels c))
             pick v c on-map a from topmost (yes e) =
-                at-top v (rw c-is at a) ∙ ap (λ x. placeOf s (listsBefore s v + (depthOf s v - depthOf s x))) (sym c-is)
+                at-top v (rw c-is at a) ∙ ap (λ x. placeOf labels (listsBefore labels v + (depthOf labels v - depthOf labels x))) (sym c-is)
               where
-                c-on-map : c < junctionsOf s
+                c-on-map : c < junctionsOf labels
                 c-on-map = ⊎-elim (λ same. rw same on-map) (λ above. above-at (formed .parents) above .on-map) a
 
                 c-is : c ≡ u
@@ -162,18 +162,18 @@ module _ {s : List ℕ} (formed : Formed s) {tables : List ℕ} (numbered : Numb
                 swept .stands v c on-map a (omega arith) (λ p above. omega (arith, topmost p above))
               where
                 -- c would be related to u, and stands behind it
-                no-ancestor : Ancestor (parentsOf s) u v → ⊥
+                no-ancestor : Ancestor (parentsOf labels) u v → ⊥
                 no-ancestor b =
                     ⊎-elim
                     (λ u-above. ⊎-elim (λ same. apart (ap (λ x. spotOf tables x) (sym same) ∙ spot-is)) (λ above. omega (arith, topmost u above, spot-is)) u-above)
                     (λ c-above. omega (arith, ancestor-spot c-above, spot-is))
                     (ancestors-related b a)
 
-                no-descendant : Above (parentsOf s) v u → ⊥
+                no-descendant : Above (parentsOf labels) v u → ⊥
                 no-descendant up = omega (arith, spots-rise up, ancestor-spot a, spot-is)
 
       -- where no junction is below u, nothing but u's own place changes
-      pub swept-alone : StartsFilled s tables → i + 1 ≡ i + size → Swept s tables i (set places u (getD tables (startsFrom + u) 0))
+      pub swept-alone : StartsFilled labels tables → i + 1 ≡ i + size → Swept labels tables i (set places u (getD tables (startsFrom + u) 0))
       swept-alone starts-filled none =
           swept-more
           (getD-set-same places u (getD tables (startsFrom + u) 0) 0 (omega (arith, swept-on-map, formed .parents .few-junctions, swept .places-length)) ∙ starts-filled .start u swept-on-map)
@@ -182,8 +182,8 @@ module _ {s : List ℕ} (formed : Formed s) {tables : List ℕ} (numbered : Numb
           (length-set places u (getD tables (startsFrom + u) 0) ∙ swept .places-length)
 
       pub swept-moved :
-          {noted after : List ℕ} → StartsFilled s tables → Noted s u (set places u (getD tables (startsFrom + u) 0)) noted →
-          MovedOn s tables (i + 1) (i + size) noted after → Swept s tables i after
+          {noted after : List ℕ} → StartsFilled labels tables → Noted labels u (set places u (getD tables (startsFrom + u) 0)) noted →
+          MovedOn labels tables (i + 1) (i + size) noted after → Swept labels tables i after
       swept-moved {noted} {after} starts-filled noting moving =
           swept-more
           (moving .unmoved u swept-on-map (λ from to. omega (arith, spot-is)) ∙
@@ -191,8 +191,8 @@ module _ {s : List ℕ} (formed : Formed s) {tables : List ℕ} (numbered : Numb
           getD-set-same places u (getD tables (startsFrom + u) 0) 0 (omega (arith, swept-on-map, formed .parents .few-junctions, swept .places-length)) ∙
           starts-filled .start u swept-on-map)
           (λ v above.
-          moving .moved v (below-on-map s above) (block-of .all v above .0) (block-of .all v above .1) ∙
-          ap (listEnd s) (noted-places (getD tables (startsFrom + u) 0) noting .below v (below-on-map s above) above ∙ sym (waits-for above)))
+          moving .moved v (below-on-map labels above) (block-of .all v above .0) (block-of .all v above .1) ∙
+          ap (listEnd labels) (noted-places (getD tables (startsFrom + u) 0) noting .below v (below-on-map labels above) above ∙ sym (waits-for above)))
           (λ v on-map apart up.
           moving .unmoved v on-map (λ from to. apart (numbered .block-below u v swept-on-map on-map (omega (arith, spot-is)) (omega (arith, spot-is, size-is)))) ∙
           noting .others v up ∙
@@ -202,7 +202,7 @@ module _ {s : List ℕ} (formed : Formed s) {tables : List ℕ} (numbered : Numb
   -- ---- The first turn
 
   -- no junction is swept
-  pub swept-none : {places : List ℕ} {n : ℕ} → n ≡ junctionsOf s → length places ≡ 1024 → Swept s tables n places
+  pub swept-none : {places : List ℕ} {n : ℕ} → n ≡ junctionsOf labels → length places ≡ 1024 → Swept labels tables n places
   swept-none n-is places-length =
       record {
         places-length = places-length;

@@ -69,14 +69,14 @@ fn move_on(
     requires { ⌜ PlacesFor (now labels) u (now places) ⌝ }
     ensures { λ _. ⌜ MovedOn (now (labels .entry)) (now (tables .entry)) from to (now (places .entry)) (now (places .exit)) ⌝ }
 {
-    let mut i = from;
-    while i < to {
-        let v = entry_at(tables, ORDER + i);
+    let mut spot = from;
+    while spot < to {
+        let v = entry_at(tables, ORDER + spot);
         let here = number_of(places, v);
         let place = Place { at: here }.next(labels);
         let next = place.at;
         places[v] = next as u32;
-        i += 1;
+        spot += 1;
     }
 }
 

@@ -26,19 +26,19 @@ use Rattle.stored.proofs.Lists.{lists-fit}
 -- ---- The parts
 
 -- Every part gives 0, and 14 and 16 are passed
-pub record PartsPass (serves : Served) (fits joins : Bool) (s : List ℕ) : Type 0 where
-  pub header : headerForm serves s ≡ 0
+pub record PartsPass (serves : Served) (fits joins : Bool) (labels : List ℕ) : Type 0 where
+  pub header : headerForm serves labels ≡ 0
   pub fits-passed : fits ≡ true
-  pub parents : parentsForm s ≡ 0
+  pub parents : parentsForm labels ≡ 0
   pub joins-passed : joins ≡ true
-  pub lists : listsForm s ≡ 0
+  pub lists : listsForm labels ≡ 0
 
-pub parts-pass : (serves : Served) (fits joins : Bool) (s : List ℕ) → labelForm serves fits joins s ≡ 0 → PartsPass serves fits joins s
+pub parts-pass : (serves : Served) (fits joins : Bool) (labels : List ℕ) → labelForm serves fits joins labels ≡ 0 → PartsPass serves fits joins labels
 unfolding labelForm
-parts-pass serves fits joins s e =
-    let header = decided-none (headerForm serves s) _ e in
+parts-pass serves fits joins labels e =
+    let header = decided-none (headerForm serves labels) _ e in
     let fourteen = unless-passed {test = fits} (λ z. omega arith) (header .1) in
-    let parents = decided-none (parentsForm s) _ (fourteen .1) in
+    let parents = decided-none (parentsForm labels) _ (fourteen .1) in
     let sixteen = unless-passed {test = joins} (λ z. omega arith) (parents .1) in
     record {
       header = header .0;
@@ -51,15 +51,15 @@ parts-pass serves fits joins s e =
 -- ---- The header
 
 -- What a header that passed says
-pub record HeaderFits (s : List ℕ) : Type 0 where
-  pub long : 16 ≤ length s
-  pub few-bytes : length s ≤ mostBytes
+pub record HeaderFits (labels : List ℕ) : Type 0 where
+  pub long : 16 ≤ length labels
+  pub few-bytes : length labels ≤ mostBytes
 
-pub header-fits : (serves : Served) (s : List ℕ) → headerForm serves s ≡ 0 → HeaderFits s
+pub header-fits : (serves : Served) (labels : List ℕ) → headerForm serves labels ≡ 0 → HeaderFits labels
 unfolding headerForm
-header-fits serves s e =
-    let size = unless-passed {test = leb 16 (length s) && leb (length s) mostBytes} (λ z. omega arith) e in
-    let both = and-both (leb 16 (length s)) (leb (length s) mostBytes) (size .0) in
+header-fits serves labels e =
+    let size = unless-passed {test = leb 16 (length labels) && leb (length labels) mostBytes} (λ z. omega arith) e in
+    let both = and-both (leb 16 (length labels)) (leb (length labels) mostBytes) (size .0) in
     record {
       long = leb-true _ _ (both .0);
       few-bytes = leb-true _ _ (both .1);
@@ -68,39 +68,39 @@ header-fits serves s e =
 -- ---- The parents
 
 -- parents whose number is 0 are fit to be read further
-pub parents-form-fit : {s : List ℕ} → junctionsOf s ≤ 1024 → parentsForm s ≡ 0 → ParentsFit s
+pub parents-form-fit : {labels : List ℕ} → junctionsOf labels ≤ 1024 → parentsForm labels ≡ 0 → ParentsFit labels
 unfolding parentsForm
-parents-form-fit {s} few e =
-    let inside = unless-passed {test = leb (listsFrom s) (length s)} (λ z. omega arith) e in
-    let passes = unless-passed {test = parentsPass s} {next = 0} (λ z. omega arith) (inside .1) in
+parents-form-fit {labels} few e =
+    let inside = unless-passed {test = leb (listsFrom labels) (length labels)} (λ z. omega arith) e in
+    let passes = unless-passed {test = parentsPass labels} {next = 0} (λ z. omega arith) (inside .1) in
     parents-fit (record { few-junctions = few; inside = leb-true _ _ (inside .0) }) (passes .0)
 
 -- ---- The lists
 
 -- What lists that passed say
-pub record AllListsFit (s : List ℕ) : Type 0 where
-  pub lists : (g : ℕ) → g < listsOf s → ListFits s (placeOf s g)
-  pub tile : placeOf s (listsOf s) ≡ length s
-  pub all-entries : entriesBefore s (listsOf s) ≡ entriesOf s
+pub record AllListsFit (labels : List ℕ) : Type 0 where
+  pub lists : (g : ℕ) → g < listsOf labels → ListFits labels (placeOf labels g)
+  pub tile : placeOf labels (listsOf labels) ≡ length labels
+  pub all-entries : entriesBefore labels (listsOf labels) ≡ entriesOf labels
 
-pub lists-form-fit : (s : List ℕ) → listsForm s ≡ 0 → AllListsFit s
+pub lists-form-fit : (labels : List ℕ) → listsForm labels ≡ 0 → AllListsFit labels
 unfolding listsForm
-lists-form-fit s e =
-    let number = decided-none (listsNumber s) _ e in
-    let tile = unless-passed {test = eqb (placeOf s (listsOf s)) (length s)} (λ z. omega arith) (number .1) in
-    let entries = unless-passed {test = eqb (entriesBefore s (listsOf s)) (entriesOf s)} {next = 0} (λ z. omega arith) (tile .1) in
+lists-form-fit labels e =
+    let number = decided-none (listsNumber labels) _ e in
+    let tile = unless-passed {test = eqb (placeOf labels (listsOf labels)) (length labels)} (λ z. omega arith) (number .1) in
+    let entries = unless-passed {test = eqb (entriesBefore labels (listsOf labels)) (entriesOf labels)} {next = 0} (λ z. omega arith) (tile .1) in
     record {
-      lists = λ g h. lists-fit s (number .0) h;
+      lists = λ g h. lists-fit labels (number .0) h;
       tile = eqb-true _ _ (tile .0);
       all-entries = eqb-true _ _ (entries .0);
     }
 
 -- what all parts say together
-pub parts-formed : {serves : Served} {fits joins : Bool} {s : List ℕ} → PartsPass serves fits joins s → 1 ≤ junctionsOf s → junctionsOf s ≤ 1024 → Formed s
-parts-formed {serves} {s = s} p some few =
-    let lists = lists-form-fit s (p .lists) in
+pub parts-formed : {serves : Served} {fits joins : Bool} {labels : List ℕ} → PartsPass serves fits joins labels → 1 ≤ junctionsOf labels → junctionsOf labels ≤ 1024 → Formed labels
+parts-formed {serves} {labels = labels} p some few =
+    let lists = lists-form-fit labels (p .lists) in
     record {
-      few-bytes = header-fits serves s (p .header) .few-bytes;
+      few-bytes = header-fits serves labels (p .header) .few-bytes;
       some-junction = some;
       parents = parents-form-fit few (p .parents);
       lists = lists .lists;
@@ -111,32 +111,32 @@ parts-formed {serves} {s = s} p some few =
 -- ---- Labels alone
 
 -- n is 1 to 1,024
-pub junctions-fit-few : (s : List ℕ) → junctionsFit s ≡ true → (1 ≤ junctionsOf s) × (junctionsOf s ≤ 1024)
-junctions-fit-few s e =
-    let both = and-both (leb 1 (junctionsOf s)) (leb (junctionsOf s) 1024) e in (leb-true _ _ (both .0), leb-true _ _ (both .1))
+pub junctions-fit-few : (labels : List ℕ) → junctionsFit labels ≡ true → (1 ≤ junctionsOf labels) × (junctionsOf labels ≤ 1024)
+junctions-fit-few labels e =
+    let both = and-both (leb 1 (junctionsOf labels)) (leb (junctionsOf labels) 1024) e in (leb-true _ _ (both .0), leb-true _ _ (both .1))
 
 -- labels that pass alone are formed
-pub alone-formed : (serves : Served) (s : List ℕ) → labelsNumberAlone serves s ≡ 0 → Formed s
+pub alone-formed : (serves : Served) (labels : List ℕ) → labelsNumberAlone serves labels ≡ 0 → Formed labels
 unfolding labelsNumberAlone
-alone-formed serves s e =
-    let parts = parts-pass serves (junctionsFit s) true s e in
-    let few = junctions-fit-few s (parts .fits-passed) in
+alone-formed serves labels e =
+    let parts = parts-pass serves (junctionsFit labels) true labels e in
+    let few = junctions-fit-few labels (parts .fits-passed) in
     parts-formed parts (few .0) (few .1)
 
 -- ---- Labels beside a network
 
 -- the two files have one n
-pub same-network-size : (net s : List ℕ) → sameNetwork net s ≡ true → junctionsOf net ≡ junctionsOf s
+pub same-network-size : (net labels : List ℕ) → sameNetwork net labels ≡ true → junctionsOf net ≡ junctionsOf labels
 unfolding sameNetwork
-same-network-size net s e =
-    let both = and-both (eqb (junctionsOf s) (junctionsOf net)) (eqb (identityOf s) (identityOf net)) e in sym (eqb-true _ _ (both .0))
+same-network-size net labels e =
+    let both = and-both (eqb (junctionsOf labels) (junctionsOf net)) (eqb (identityOf labels) (identityOf net)) e in sym (eqb-true _ _ (both .0))
 
 -- labels that pass beside a network stand beside it
-pub files-fit : (serves : Served) {net : List ℕ} (s : List ℕ) → NetworkFits net → labelsNumber serves net s ≡ 0 → FilesFit net s
+pub files-fit : (serves : Served) {net : List ℕ} (labels : List ℕ) → NetworkFits net → labelsNumber serves net labels ≡ 0 → FilesFit net labels
 unfolding labelsNumber
-files-fit serves {net} s network e =
-    let parts = parts-pass serves (sameNetwork net s) (every (roadJoins net s) (roadsOf net)) s e in
-    let same = same-network-size net s (parts .fits-passed) in
+files-fit serves {net} labels network e =
+    let parts = parts-pass serves (sameNetwork net labels) (every (roadJoins net labels) (roadsOf net)) labels e in
+    let same = same-network-size net labels (parts .fits-passed) in
     record {
       network = network;
       formed = parts-formed parts (omega (arith, network .some-junction, same)) (omega (arith, network .few-junctions, same));

@@ -4,7 +4,7 @@ use mathlib.Core.List.{List}
 use Prim.Native.Nat.{ℕ}
 use Rattle.files.specs.Shown.{Shown, nothing, bytes}
 
-pub shown-unique : {s : List ℕ} {v u : ℕ} {part other : List ℕ} → Shown s v u part → Shown s v u other → part ≡ other
+pub shown-unique : {labels : List ℕ} {v u : ℕ} {part other : List ℕ} → Shown labels v u part → Shown labels v u other → part ≡ other
 shown-unique (nothing h e) (nothing k f) = e ∙ sym f
 shown-unique (nothing h e) (bytes k f) = absurd (h k)
 shown-unique (bytes h e) (nothing k f) = absurd (k h)

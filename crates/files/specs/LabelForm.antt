@@ -8,7 +8,7 @@ use Rattle.refusals.specs.Order.{unless, decided, every}
 use Rattle.bytes.specs.Bytes.{marked}
 use Rattle.network.specs.declared.versions.Served.{Served}
 use Rattle.network.specs.Versions.{served}
-use Rattle.network.specs.NetworkFile.{versionOf, junctionsOf, roadsOf, identityOf}
+use Rattle.network.specs.NetworkFile.{headerBytes, versionOf, junctionsOf, roadsOf, identityOf}
 use Rattle.forest.specs.LabelFile.{entriesOf, listsFrom}
 use Rattle.forest.specs.Forest.{parentsPass, roadJoins}
 use Rattle.stored.specs.Stored.{listsOf, placeOf, entriesBefore}
@@ -19,7 +19,7 @@ use Rattle.stored.specs.ListForm.{mostBytes, listsNumber}
 -- The header's tests: 11, 12, 13
 unfoldable pub headerForm : Served → List ℕ → ℕ
 headerForm serves labels =
-    unless (leb 16 (length labels) && leb (length labels) mostBytes) 11
+    unless (leb headerBytes (length labels) && leb (length labels) mostBytes) 11
     (unless (marked 84 76 66 labels) 12
     (unless (served serves (versionOf labels)) 13
     0))

@@ -4,6 +4,7 @@ use forest::parents::entries_of;
 use forest::parents::fill_depths;
 use forest::parents::lists_from;
 use forest::parents::roads_join;
+use network::header::HEADER_BYTES;
 use network::header::identity_of;
 use network::header::junctions_of;
 use network::header::version_of;
@@ -13,7 +14,7 @@ ghost use mathlib.Core.Path.{_≡_};
 ghost use Prim.Native.Nat.{_≤_};
 ghost use lib.ListN.{length};
 ghost use Rattle.tables.specs.working.Layout.{tablePlaces};
-ghost use Rattle.network.specs.NetworkFile.{junctionsOf};
+ghost use Rattle.network.specs.NetworkFile.{headerBytes, junctionsOf};
 ghost use Rattle.network.specs.working.Fits.{NetworkFits};
 ghost use Rattle.stored.specs.ListForm.{mostBytes};
 ghost use Rattle.files.specs.LabelForm.{headerForm, sameNetwork, junctionsFit};
@@ -26,7 +27,7 @@ const MOST_BYTES: usize = 4194304;
 fn header_form(labels: &[u8], serves: Served) -> u32
     ensures { λ r. ⌜ r ≡ headerForm serves (now (labels .entry)) ⌝ }
 {
-    if labels.len() < 16 {
+    if labels.len() < HEADER_BYTES {
         return 11;
     }
     if labels.len() > MOST_BYTES {
@@ -43,7 +44,7 @@ fn header_form(labels: &[u8], serves: Served) -> u32
 
 // What 14 asks where there is no network.
 fn junctions_fit(labels: &[u8]) -> bool
-    requires { ⌜ 16 ≤ length (now labels) ⌝ }
+    requires { ⌜ headerBytes ≤ length (now labels) ⌝ }
     ensures { λ r. ⌜ r ≡ junctionsFit (now (labels .entry)) ⌝ }
 {
     let n = junctions_of(labels);
@@ -55,8 +56,8 @@ fn junctions_fit(labels: &[u8]) -> bool
 
 // What 14 asks beside a network.
 fn same_network(net: &[u8], labels: &[u8]) -> bool
-    requires { ⌜ 16 ≤ length (now net) ⌝ }
-    requires { ⌜ 16 ≤ length (now labels) ⌝ }
+    requires { ⌜ headerBytes ≤ length (now net) ⌝ }
+    requires { ⌜ headerBytes ≤ length (now labels) ⌝ }
     ensures { λ r. ⌜ r ≡ sameNetwork (now (net .entry)) (now (labels .entry)) ⌝ }
 {
     let n = junctions_of(labels);
@@ -71,7 +72,7 @@ fn same_network(net: &[u8], labels: &[u8]) -> bool
 
 // 11 for parents that are cut off, 15, or 0; at 0 the depths are filled.
 fn parents_form(labels: &[u8], depths: &mut [u32; 1024]) -> u32
-    requires { ⌜ 16 ≤ length (now labels) ⌝ }
+    requires { ⌜ headerBytes ≤ length (now labels) ⌝ }
     requires { ⌜ junctionsOf (now labels) ≤ 1024 ⌝ }
     requires { ⌜ length (now depths) ≡ 1024 ⌝ }
     ensures { λ r. ⌜ ParentsNumbered (now (labels .entry)) (now (depths .exit)) r ⌝ }

@@ -50,15 +50,15 @@ module _ {test : ℕ → Bool} {n : ℕ} where
 
 -- ---- One parent
 
-module _ (s : List ℕ) (v : ℕ) {n parent : ℕ} (size : n ≡ junctionsOf s) (is : parent ≡ parentAt s v) where
+module _ (labels : List ℕ) (v : ℕ) {n parent : ℕ} (size : n ≡ junctionsOf labels) (is : parent ≡ parentAt labels v) where
   -- a junction fits, and what is none fits exactly if it is the sign for a root
-  pub fits-junction : parent < n → true ≡ parentFits s v
+  pub fits-junction : parent < n → true ≡ parentFits labels v
   unfolding parentFits
-  fits-junction h = rw (lt-ltb (parentAt s v) (junctionsOf s) (omega arith))
+  fits-junction h = rw (lt-ltb (parentAt labels v) (junctionsOf labels) (omega arith))
 
-  pub fits-beyond : n ≤ parent → eqb parent noParent ≡ parentFits s v
+  pub fits-beyond : n ≤ parent → eqb parent noParent ≡ parentFits labels v
   unfolding parentFits
-  fits-beyond h = rw (is, le-ltb (parentAt s v) (junctionsOf s) (omega arith))
+  fits-beyond h = rw (is, le-ltb (parentAt labels v) (junctionsOf labels) (omega arith))
 
 -- ---- The table of depths that are known
 
@@ -95,105 +95,105 @@ stored-or-old depths u d w inside = pick (ℕ-discrete w u)
     pick (yes e) = inl (e, ap (λ i. getD (set depths u d) i 0) e ∙ getD-set-same depths u d 0 inside)
     pick (no apart) = inr (getD-set-other depths u w d 0 apart)
 
-module _ (s depths : List ℕ) (u d : ℕ) (few : junctionsOf s ≤ 1024) (on-map : u < junctionsOf s) (is : d ≡ depthOf s u) where
+module _ (labels depths : List ℕ) (u d : ℕ) (few : junctionsOf labels ≤ 1024) (on-map : u < junctionsOf labels) (is : d ≡ depthOf labels u) where
   -- a table that is right stays so where a depth is stored
-  pub known-more : DepthsKnown s depths → DepthsKnown s (set depths u d)
+  pub known-more : DepthsKnown labels depths → DepthsKnown labels (set depths u d)
   known-more known =
       record {
         places = length-set depths u d ∙ known .places;
         right = λ w l h.
             ⊎-elim
-            (λ same. same .1 ∙ is ∙ ap (depthOf s) (sym (same .0)))
+            (λ same. same .1 ∙ is ∙ ap (depthOf labels) (sym (same .0)))
             (λ old. old ∙ known .right w l (omega (arith, old)))
             (stored-or-old depths u d w (omega (arith, known .places)));
       }
 
   -- and what was known still is
-  pub stays-more : d < junctionsOf s → length depths ≡ 1024 → (w : ℕ) → getD depths w 0 < junctionsOf s → getD (set depths u d) w 0 < junctionsOf s
+  pub stays-more : d < junctionsOf labels → length depths ≡ 1024 → (w : ℕ) → getD depths w 0 < junctionsOf labels → getD (set depths u d) w 0 < junctionsOf labels
   stays-more near places w h =
       ⊎-elim (λ same. omega (arith, same .1)) (λ old. omega (arith, old)) (stored-or-old depths u d w (omega arith))
 
 -- ---- Climbing to a depth that is known
 
 -- what is the depth is found
-found-exact : {s : List ℕ} {v r : ℕ} → r ≡ depthOf s v → DepthFound s v r
+found-exact : {labels : List ℕ} {v r : ℕ} → r ≡ depthOf labels v → DepthFound labels v r
 found-exact e = record { near = λ h. e; far = λ h. omega (arith, e) }
 
 -- After `steps` steps from v the climb has come to u, and the steps that are left make up the depth
-pub record Climbing (s : List ℕ) (n v u steps : ℕ) : Type 0 where
-  pub on-map : u < junctionsOf s
+pub record Climbing (labels : List ℕ) (n v u steps : ℕ) : Type 0 where
+  pub on-map : u < junctionsOf labels
   pub few : steps ≤ n
-  pub depth : depthOf s v ≡ steps + stepsUp s (n - steps) u
+  pub depth : depthOf labels v ≡ steps + stepsUp labels (n - steps) u
 
 -- no step yet
-pub climbing-start : {s : List ℕ} {n v : ℕ} → Climbable s n v → Climbing s n v v 0
+pub climbing-start : {labels : List ℕ} {n v : ℕ} → Climbable labels n v → Climbing labels n v v 0
 unfolding depthOf
-climbing-start {s} {n} {v} h =
-    record { on-map = h .on-map; few = omega arith; depth = rw whole (sym (zero-add (stepsUp s (junctionsOf s) v))) }
+climbing-start {labels} {n} {v} h =
+    record { on-map = h .on-map; few = omega arith; depth = rw whole (sym (zero-add (stepsUp labels (junctionsOf labels) v))) }
   where
-    whole : n - 0 ≡ junctionsOf s
+    whole : n - 0 ≡ junctionsOf labels
     whole = omega (arith, h .size)
 
-module _ {s : List ℕ} {n v u steps : ℕ} (now : Climbing s n v u steps) where
+module _ {labels : List ℕ} {n v u steps : ℕ} (now : Climbing labels n v u steps) where
   -- one more step
   pub climbing-more :
-      AllFit s → (parent : ℕ) → steps < n → parent ≡ parentAt s u → (parent ≡ noParent → ⊥) → Climbing s n v parent (steps + 1)
+      AllFit labels → (parent : ℕ) → steps < n → parent ≡ parentAt labels u → (parent ≡ noParent → ⊥) → Climbing labels n v parent (steps + 1)
   climbing-more fits parent more is other =
       record {
-        on-map = rw is (parent-on-map s u (fits u (now .on-map)) no-root);
+        on-map = rw is (parent-on-map labels u (fits u (now .on-map)) no-root);
         few = omega arith;
-        depth = rw is (omega (arith, now .depth, ap (λ most. stepsUp s most u) left, steps-parent s (n - (steps + 1)) u no-root));
+        depth = rw is (omega (arith, now .depth, ap (λ most. stepsUp labels most u) left, steps-parent labels (n - (steps + 1)) u no-root));
       }
     where
-      no-root : IsRoot s u → ⊥
+      no-root : IsRoot labels u → ⊥
       no-root r = other (is ∙ r)
 
       left : n - steps ≡ suc (n - (steps + 1))
       left = omega arith
 
   -- the climb is over at a root, after n steps, or at a junction whose depth is known
-  pub climbing-root : (parent : ℕ) → parent ≡ parentAt s u → parent ≡ noParent → DepthFound s v steps
-  climbing-root parent is root = found-exact (omega (arith, now .depth, steps-root s (n - steps) u (sym is ∙ root)))
+  pub climbing-root : (parent : ℕ) → parent ≡ parentAt labels u → parent ≡ noParent → DepthFound labels v steps
+  climbing-root parent is root = found-exact (omega (arith, now .depth, steps-root labels (n - steps) u (sym is ∙ root)))
 
-  pub climbing-end : n ≤ steps → DepthFound s v steps
-  climbing-end all = found-exact (omega (arith, now .depth, ap (λ most. stepsUp s most u) left, steps-none s u))
+  pub climbing-end : n ≤ steps → DepthFound labels v steps
+  climbing-end all = found-exact (omega (arith, now .depth, ap (λ most. stepsUp labels most u) left, steps-none labels u))
     where
       left : n - steps ≡ 0
       left = omega arith
 
-  pub climbing-known : {depths : List ℕ} → n ≡ junctionsOf s → DepthsKnown s depths → getD depths u 0 < n → DepthFound s v (steps + getD depths u 0)
+  pub climbing-known : {depths : List ℕ} → n ≡ junctionsOf labels → DepthsKnown labels depths → getD depths u 0 < n → DepthFound labels v (steps + getD depths u 0)
   unfolding depthOf
   climbing-known {depths} size known below = record { near = near; far = far }
     where
-      is : getD depths u 0 ≡ stepsUp s (junctionsOf s) u
+      is : getD depths u 0 ≡ stepsUp labels (junctionsOf labels) u
       is = known .right u (now .on-map) (omega arith)
 
-      near : steps + getD depths u 0 < junctionsOf s → steps + getD depths u 0 ≡ depthOf s v
+      near : steps + getD depths u 0 < junctionsOf labels → steps + getD depths u 0 ≡ depthOf labels v
       near h =
-          omega (arith, now .depth, is, steps-below s (n - steps) (junctionsOf s) u (omega arith) (omega (arith, is)))
+          omega (arith, now .depth, is, steps-below labels (n - steps) (junctionsOf labels) u (omega arith) (omega (arith, is)))
 
-      far : junctionsOf s ≤ steps + getD depths u 0 → junctionsOf s ≤ depthOf s v
+      far : junctionsOf labels ≤ steps + getD depths u 0 → junctionsOf labels ≤ depthOf labels v
       far h =
-          omega (arith, now .depth, now .few, steps-capped s (n - steps) (junctionsOf s) u (omega arith) (omega (arith, is)))
+          omega (arith, now .depth, now .few, steps-capped labels (n - steps) (junctionsOf labels) u (omega arith) (omega (arith, is)))
 
 -- ---- Writing the depths of a chain
 
 -- The depth of u, `left`, is the last that was written on the way up from v
-pub record Writing (s : List ℕ) (v : ℕ) (before depths : List ℕ) (u left : ℕ) : Type 0 where
-  pub written : DepthsWritten s v before depths
-  pub on-map : u < junctionsOf s
-  pub depth : left ≡ depthOf s u
-  pub near : left < junctionsOf s
+pub record Writing (labels : List ℕ) (v : ℕ) (before depths : List ℕ) (u left : ℕ) : Type 0 where
+  pub written : DepthsWritten labels v before depths
+  pub on-map : u < junctionsOf labels
+  pub depth : left ≡ depthOf labels u
+  pub near : left < junctionsOf labels
 
-module _ {s : List ℕ} {n v : ℕ} (from : Climbable s n v) where
-  module _ {depths : List ℕ} {depth : ℕ} (known : DepthsKnown s depths) (is : depth ≡ depthOf s v) (near : depth < n) where
+module _ {labels : List ℕ} {n v : ℕ} (from : Climbable labels n v) where
+  module _ {depths : List ℕ} {depth : ℕ} (known : DepthsKnown labels depths) (is : depth ≡ depthOf labels v) (near : depth < n) where
     -- v's own depth is written first
-    pub writing-start : Writing s v (set depths v depth) (set depths v depth) v depth
+    pub writing-start : Writing labels v (set depths v depth) (set depths v depth) v depth
     writing-start =
         record {
           written =
               record {
-                known = known-more s depths v depth (from .stand .few-junctions) (from .on-map) is known;
+                known = known-more labels depths v depth (from .stand .few-junctions) (from .on-map) is known;
                 stays = λ w h. h;
                 here = omega (arith, getD-set-same depths v depth 0 (omega (arith, known .places, from .on-map, from .stand .few-junctions)), from .size);
               };
@@ -203,7 +203,7 @@ module _ {s : List ℕ} {n v : ℕ} (from : Climbable s n v) where
         }
 
     -- what was known before that still is
-    pub writing-done : {after : List ℕ} → DepthsWritten s v (set depths v depth) after → DepthsWritten s v depths after
+    pub writing-done : {after : List ℕ} → DepthsWritten labels v (set depths v depth) after → DepthsWritten labels v depths after
     writing-done written =
         record {
           known = written .known;
@@ -211,20 +211,20 @@ module _ {s : List ℕ} {n v : ℕ} (from : Climbable s n v) where
           here = written .here;
         }
       where
-        still : (w : ℕ) → getD depths w 0 < junctionsOf s → getD (set depths v depth) w 0 < junctionsOf s
-        still = stays-more s depths v depth (from .stand .few-junctions) (from .on-map) is (omega (arith, from .size)) (known .places)
+        still : (w : ℕ) → getD depths w 0 < junctionsOf labels → getD (set depths v depth) w 0 < junctionsOf labels
+        still = stays-more labels depths v depth (from .stand .few-junctions) (from .on-map) is (omega (arith, from .size)) (known .places)
 
-  module _ {before depths : List ℕ} {u left parent : ℕ} (now : Writing s v before depths u left) (more : 0 < left) (is : parent ≡ parentAt s u) where
+  module _ {before depths : List ℕ} {u left parent : ℕ} (now : Writing labels v before depths u left) (more : 0 < left) (is : parent ≡ parentAt labels u) where
     -- a junction that is no root has a parent, one step above it
-    pub parent-above : (parent < junctionsOf s) × (left - 1 ≡ depthOf s parent)
+    pub parent-above : (parent < junctionsOf labels) × (left - 1 ≡ depthOf labels parent)
     parent-above =
-        let no-root = depth-some s u (omega (arith, now .depth)) in (
-          rw is (parent-on-map s u (from .fits u (now .on-map)) no-root),
-          rw is (omega (arith, now .depth, depth-parent s u no-root (omega (arith, now .depth, now .near)))),
+        let no-root = depth-some labels u (omega (arith, now .depth)) in (
+          rw is (parent-on-map labels u (from .fits u (now .on-map)) no-root),
+          rw is (omega (arith, now .depth, depth-parent labels u no-root (omega (arith, now .depth, now .near)))),
         )
 
     -- its depth is written next
-    pub writing-more : Writing s v before (set depths parent (left - 1)) parent (left - 1)
+    pub writing-more : Writing labels v before (set depths parent (left - 1)) parent (left - 1)
     writing-more =
         let above = parent-above in
         let few = from .stand .few-junctions in
@@ -232,7 +232,7 @@ module _ {s : List ℕ} {n v : ℕ} (from : Climbable s n v) where
         record {
           written =
               record {
-                known = known-more s depths parent (left - 1) few (above .0) (above .1) known;
+                known = known-more labels depths parent (left - 1) few (above .0) (above .1) known;
                 stays = λ w h. still w (now .written .stays w h);
                 here = still v (now .written .here);
               };
@@ -241,16 +241,16 @@ module _ {s : List ℕ} {n v : ℕ} (from : Climbable s n v) where
           near = omega (arith, now .near);
         }
       where
-        still : (w : ℕ) → getD depths w 0 < junctionsOf s → getD (set depths parent (left - 1)) w 0 < junctionsOf s
+        still : (w : ℕ) → getD depths w 0 < junctionsOf labels → getD (set depths parent (left - 1)) w 0 < junctionsOf labels
         still =
-            stays-more s depths parent (left - 1) (from .stand .few-junctions) (parent-above .0) (parent-above .1) (omega (arith, now .near))
+            stays-more labels depths parent (left - 1) (from .stand .few-junctions) (parent-above .0) (parent-above .1) (omega (arith, now .near))
             (now .written .known .places)
 
 -- ---- All depths
 
-module _ {s : List ℕ} {v : ℕ} {depths : List ℕ} (known : DepthsKnown s depths) where
+module _ {labels : List ℕ} {v : ℕ} {depths : List ℕ} (known : DepthsKnown labels depths) where
   -- a depth that is known, and a chain that returns
-  pub settled-known : getD depths v 0 < junctionsOf s → DepthSettled s v depths depths true
+  pub settled-known : getD depths v 0 < junctionsOf labels → DepthSettled labels v depths depths true
   settled-known h =
       record {
         places = known .places;
@@ -258,117 +258,117 @@ module _ {s : List ℕ} {v : ℕ} {depths : List ℕ} (known : DepthsKnown s dep
         returns = λ e. absurd (false≢true (sym e));
       }
 
-  pub settled-returns : {depth : ℕ} → DepthFound s v depth → junctionsOf s ≤ depth → DepthSettled s v depths depths false
+  pub settled-returns : {depth : ℕ} → DepthFound labels v depth → junctionsOf labels ≤ depth → DepthSettled labels v depths depths false
   settled-returns found h = record { places = known .places; ends = λ e. absurd (false≢true e); returns = λ e. found .far h }
 
 -- a depth that was written
-pub settled-written : {s : List ℕ} {v : ℕ} {before after : List ℕ} → DepthsWritten s v before after → DepthSettled s v before after true
+pub settled-written : {labels : List ℕ} {v : ℕ} {before after : List ℕ} → DepthsWritten labels v before after → DepthSettled labels v before after true
 settled-written written = record { places = written .known .places; ends = λ e. written; returns = λ e. absurd (false≢true (sym e)) }
 
 -- The depths of the junctions below v are known
-pub record Filling (s depths : List ℕ) (v : ℕ) : Type 0 where
-  pub known : DepthsKnown s depths
-  pub few : v ≤ junctionsOf s
-  pub below : (w : ℕ) → w < v → getD depths w 0 < junctionsOf s
+pub record Filling (labels depths : List ℕ) (v : ℕ) : Type 0 where
+  pub known : DepthsKnown labels depths
+  pub few : v ≤ junctionsOf labels
+  pub below : (w : ℕ) → w < v → getD depths w 0 < junctionsOf labels
 
 -- none is known yet
-pub filling-start : (s : List ℕ) {n : ℕ} {depths : List ℕ} → n ≡ junctionsOf s → NoneKnown n depths → Filling s depths 0
-filling-start s {depths = depths} size none =
+pub filling-start : (labels : List ℕ) {n : ℕ} {depths : List ℕ} → n ≡ junctionsOf labels → NoneKnown n depths → Filling labels depths 0
+filling-start labels {depths = depths} size none =
     record {
       known = record { places = none .places; right = λ w l h. absurd (omega (arith, none .unknown w (omega arith))) };
       few = omega arith;
-      below = below-none (λ w. getD depths w 0 < junctionsOf s);
+      below = below-none (λ w. getD depths w 0 < junctionsOf labels);
     }
 
 module _
-    {s : List ℕ} (stand : ParentsStand s) {n : ℕ} (size : n ≡ junctionsOf s) {r : Bool} (all : r ≡ every (parentFits s) (junctionsOf s))
+    {labels : List ℕ} (stand : ParentsStand labels) {n : ℕ} (size : n ≡ junctionsOf labels) {r : Bool} (all : r ≡ every (parentFits labels) (junctionsOf labels))
   where
     -- a parent that does not fit ends it
-    pub tested-misfit : {depths : List ℕ} → length depths ≡ 1024 → not r ≡ true → ParentsTested s depths false
+    pub tested-misfit : {depths : List ℕ} → length depths ≡ 1024 → not r ≡ true → ParentsTested labels depths false
     tested-misfit places e =
         record {
-          is = sym (and-false-left (every (chainEnds s) (junctionsOf s)) (sym all ∙ not-true r e));
+          is = sym (and-false-left (every (chainEnds labels) (junctionsOf labels)) (sym all ∙ not-true r e));
           filled = λ z. absurd (false≢true z);
           places = places;
         }
 
     module _ (fine : not r ≡ false) where
       -- where every parent fits, each junction may be climbed from
-      all-hold : every (parentFits s) (junctionsOf s) ≡ true
+      all-hold : every (parentFits labels) (junctionsOf labels) ≡ true
       all-hold = sym all ∙ not-false r fine
 
-      pub can-climb : (v : ℕ) → v < n → Climbable s n v
+      pub can-climb : (v : ℕ) → v < n → Climbable labels n v
       can-climb v h =
           record {
             stand = stand;
             size = size;
-            fits = λ w l. every-holds (parentFits s) (junctionsOf s) all-hold l;
+            fits = λ w l. every-holds (parentFits labels) (junctionsOf labels) all-hold l;
             on-map = omega arith;
           }
 
-      module _ {depths after : List ℕ} {v : ℕ} {settled : Bool} (now : Filling s depths v) (more : v < n) (does : DepthSettled s v depths after settled) where
+      module _ {depths after : List ℕ} {v : ℕ} {settled : Bool} (now : Filling labels depths v) (more : v < n) (does : DepthSettled labels v depths after settled) where
         -- a chain that returns ends it too
-        pub filling-returns : not settled ≡ true → ParentsTested s after false
+        pub filling-returns : not settled ≡ true → ParentsTested labels after false
         unfolding chainEnds
         filling-returns e =
             record {
               is =
                   sym
-                  (and-false-right (every (parentFits s) (junctionsOf s))
-                  (every-fails (chainEnds s) (junctionsOf s) {i = v} (omega arith)
-                  (le-ltb (depthOf s v) (junctionsOf s) (does .returns (not-true settled e)))));
+                  (and-false-right (every (parentFits labels) (junctionsOf labels))
+                  (every-fails (chainEnds labels) (junctionsOf labels) {i = v} (omega arith)
+                  (le-ltb (depthOf labels v) (junctionsOf labels) (does .returns (not-true settled e)))));
               filled = λ z. absurd (false≢true z);
               places = does .places;
             }
 
         -- one more depth
-        pub filling-more : not settled ≡ false → Filling s after (v + 1)
+        pub filling-more : not settled ≡ false → Filling labels after (v + 1)
         filling-more e =
             let written = does .ends (not-false settled e) in
             record {
               known = written .known;
               few = omega arith;
-              below = below-more (λ w. getD after w 0 < junctionsOf s) v (λ w l. written .stays w (now .below w l)) (written .here);
+              below = below-more (λ w. getD after w 0 < junctionsOf labels) v (λ w l. written .stays w (now .below w l)) (written .here);
             }
 
       -- all are filled
-      pub filling-end : {depths : List ℕ} {v : ℕ} → Filling s depths v → n ≤ v → ParentsTested s depths true
+      pub filling-end : {depths : List ℕ} {v : ℕ} → Filling labels depths v → n ≤ v → ParentsTested labels depths true
       unfolding chainEnds
       filling-end {depths} {v} now over =
           record {
-            is = sym (and-true all-hold (every-all (chainEnds s) (junctionsOf s) (λ w l. lt-ltb (depthOf s w) (junctionsOf s) (omega (arith, below w l, depth w l)))));
+            is = sym (and-true all-hold (every-all (chainEnds labels) (junctionsOf labels) (λ w l. lt-ltb (depthOf labels w) (junctionsOf labels) (omega (arith, below w l, depth w l)))));
             filled = λ z. record { places = now .known .places; depth = depth };
             places = now .known .places;
           }
         where
-          below : (w : ℕ) → w < junctionsOf s → getD depths w 0 < junctionsOf s
+          below : (w : ℕ) → w < junctionsOf labels → getD depths w 0 < junctionsOf labels
           below w l = now .below w (omega arith)
 
-          depth : (w : ℕ) → w < junctionsOf s → getD depths w 0 ≡ depthOf s w
+          depth : (w : ℕ) → w < junctionsOf labels → getD depths w 0 ≡ depthOf labels w
           depth w l = now .known .right w l (below w l)
 
 -- ---- Climbing k steps
 
 -- After `steps` steps from v the climb has come to u
-pub record Climb (s : List ℕ) (v k u steps : ℕ) : Type 0 where
+pub record Climb (labels : List ℕ) (v k u steps : ℕ) : Type 0 where
   pub few : steps ≤ k
-  pub is : u ≡ ancestorOf s v steps
+  pub is : u ≡ ancestorOf labels v steps
 
-module _ {s : List ℕ} (v k : ℕ) where
+module _ {labels : List ℕ} (v k : ℕ) where
   -- no step yet, one more, and k of them: the climb stays on the map
-  pub climb-start : Climb s v k v 0
-  climb-start = record { few = omega arith; is = sym (ancestor-none s v) }
+  pub climb-start : Climb labels v k v 0
+  climb-start = record { few = omega arith; is = sym (ancestor-none labels v) }
 
-  pub climb-more : {u steps : ℕ} → Climb s v k u steps → (parent : ℕ) → steps < k → parent ≡ parentAt s u → Climb s v k parent (steps + 1)
+  pub climb-more : {u steps : ℕ} → Climb labels v k u steps → (parent : ℕ) → steps < k → parent ≡ parentAt labels u → Climb labels v k parent (steps + 1)
   climb-more {u} {steps} now parent more is =
-      record { few = omega arith; is = is ∙ (ap (parentAt s) (now .is) ∙ sym (ancestor-more s v steps)) }
+      record { few = omega arith; is = is ∙ (ap (parentAt labels) (now .is) ∙ sym (ancestor-more labels v steps)) }
 
-  module _ (fit : ParentsFit s) (below : v < junctionsOf s) (shallow : k ≤ depthOf s v) where
-    pub climb-on-map : {u steps : ℕ} → Climb s v k u steps → u < junctionsOf s
+  module _ (fit : ParentsFit labels) (below : v < junctionsOf labels) (shallow : k ≤ depthOf labels v) where
+    pub climb-on-map : {u steps : ℕ} → Climb labels v k u steps → u < junctionsOf labels
     climb-on-map {u} {steps} now = rw (now .is) (climbed fit steps v below (omega (arith, now .few)) .on-map)
 
-    pub climb-end : {u steps : ℕ} → Climb s v k u steps → k ≤ steps → AncestorRead s v k u
-    climb-end {u} {steps} now all = record { is = now .is ∙ ap (ancestorOf s v) same; on-map = climb-on-map now }
+    pub climb-end : {u steps : ℕ} → Climb labels v k u steps → k ≤ steps → AncestorRead labels v k u
+    climb-end {u} {steps} now all = record { is = now .is ∙ ap (ancestorOf labels v) same; on-map = climb-on-map now }
       where
         same : steps ≡ k
         same = omega (arith, now .few)
@@ -376,8 +376,8 @@ module _ {s : List ℕ} (v k : ℕ) where
 -- ---- Whether u is an ancestor of v
 
 module _
-    {s depths : List ℕ} (fit : ParentsFit s) (filled : DepthsFilled s depths)
-    (u v : ℕ) (u-below : u < junctionsOf s) (v-below : v < junctionsOf s)
+    {labels depths : List ℕ} (fit : ParentsFit labels) (filled : DepthsFilled labels depths)
+    (u v : ℕ) (u-below : u < junctionsOf labels) (v-below : v < junctionsOf labels)
   where
     -- the depths of both fit
     pub depths-small : (getD depths u 0 < 1024) × (getD depths v 0 < 1024)
@@ -387,37 +387,37 @@ module _
     )
 
     -- a deeper junction is no ancestor
-    pub deeper-is-none : getD depths v 0 < getD depths u 0 → false ≡ isAncestor s u v
+    pub deeper-is-none : getD depths v 0 < getD depths u 0 → false ≡ isAncestor labels u v
     unfolding isAncestor
     deeper-is-none h =
         sym
-        (and-false-left (eqb (ancestorOf s v (depthOf s v - depthOf s u)) u)
-        (lt-leb (depthOf s u) (depthOf s v) (omega (arith, filled .depth u u-below, filled .depth v v-below))))
+        (and-false-left (eqb (ancestorOf labels v (depthOf labels v - depthOf labels u)) u)
+        (lt-leb (depthOf labels u) (depthOf labels v) (omega (arith, filled .depth u u-below, filled .depth v v-below))))
 
     -- any other is one exactly if the climb by the difference of the depths meets it
-    pub climb-fits : getD depths u 0 ≤ getD depths v 0 → getD depths v 0 - getD depths u 0 ≤ depthOf s v
+    pub climb-fits : getD depths u 0 ≤ getD depths v 0 → getD depths v 0 - getD depths u 0 ≤ depthOf labels v
     climb-fits h = omega (arith, filled .depth v v-below)
 
     pub climb-tells :
-        {r : ℕ} → getD depths u 0 ≤ getD depths v 0 → AncestorRead s v (getD depths v 0 - getD depths u 0) r → eqb r u ≡ isAncestor s u v
+        {r : ℕ} → getD depths u 0 ≤ getD depths v 0 → AncestorRead labels v (getD depths v 0 - getD depths u 0) r → eqb r u ≡ isAncestor labels u v
     unfolding isAncestor
     climb-tells {r} h read =
-        rw (read .is, filled .depth u u-below, filled .depth v v-below, le-leb (depthOf s u) (depthOf s v) no-deeper)
+        rw (read .is, filled .depth u u-below, filled .depth v v-below, le-leb (depthOf labels u) (depthOf labels v) no-deeper)
       where
-        no-deeper : depthOf s u ≤ depthOf s v
+        no-deeper : depthOf labels u ≤ depthOf labels v
         no-deeper = omega (arith, filled .depth u u-below, filled .depth v v-below)
 
 -- ---- Whether a road joins
 
 module _
-    (net s : List ℕ) (k : ℕ) {low high : ℕ} (low-is : low ≡ roadLow net k) (high-is : high ≡ roadHigh net k)
-    {up : Bool} (up-is : up ≡ isAncestor s low high)
+    (net labels : List ℕ) (k : ℕ) {low high : ℕ} (low-is : low ≡ roadLow net k) (high-is : high ≡ roadHigh net k)
+    {up : Bool} (up-is : up ≡ isAncestor labels low high)
   where
     -- the first end may be above the second, or else the second above the first
-    pub joins-up : up ≡ true → true ≡ roadJoins net s k
+    pub joins-up : up ≡ true → true ≡ roadJoins net labels k
     unfolding roadJoins
     joins-up e = rw (← low-is, ← high-is, ← up-is, e)
 
-    pub joins-down : {down : Bool} → up ≡ false → down ≡ isAncestor s high low → down ≡ roadJoins net s k
+    pub joins-down : {down : Bool} → up ≡ false → down ≡ isAncestor labels high low → down ≡ roadJoins net labels k
     unfolding roadJoins
     joins-down e down-is = rw (← low-is, ← high-is, ← up-is, e) down-is

@@ -24,39 +24,39 @@ use Rattle.forest.proofs.Forest.{parents-child, above-shallower}
 
 -- The junctions met on k steps up from v, v first
 met : List ℕ → ℕ → ℕ → List ℕ
-met s zero v = v ∷ []
-met s (suc k) v = v ∷ met s k (parentAt s v)
+met labels zero v = v ∷ []
+met labels (suc k) v = v ∷ met labels k (parentAt labels v)
 
 -- one more than the steps
-met-length : (s : List ℕ) (k v : ℕ) → length (met s k v) ≡ suc k
+met-length : (labels : List ℕ) (k v : ℕ) → length (met labels k v) ≡ suc k
 unfolding met
-met-length s zero v = refl
-met-length s (suc k) v = ap suc (met-length s k (parentAt s v))
+met-length labels zero v = refl
+met-length labels (suc k) v = ap suc (met-length labels k (parentAt labels v))
 
 -- A step up from v that was counted
-record Stepped (s : List ℕ) (most k v : ℕ) : Type 0 where
-  no-root : IsRoot s v → ⊥
-  further : k ≤ stepsUp s (most - 1) (parentAt s v)
+record Stepped (labels : List ℕ) (most k v : ℕ) : Type 0 where
+  no-root : IsRoot labels v → ⊥
+  further : k ≤ stepsUp labels (most - 1) (parentAt labels v)
 
 -- a step that was counted left a junction that is no root
-stepped : (s : List ℕ) (most k v : ℕ) → suc k ≤ stepsUp s most v → Stepped s most k v
-stepped s zero k v h = absurd (omega (arith, steps-none s v))
-stepped s (suc most) k v h = record { no-root = other; further = rw one (omega (arith, steps-parent s most v other)) }
+stepped : (labels : List ℕ) (most k v : ℕ) → suc k ≤ stepsUp labels most v → Stepped labels most k v
+stepped labels zero k v h = absurd (omega (arith, steps-none labels v))
+stepped labels (suc most) k v h = record { no-root = other; further = rw one (omega (arith, steps-parent labels most v other)) }
   where
-    other : IsRoot s v → ⊥
-    other r = omega (arith, steps-root s (suc most) v r)
+    other : IsRoot labels v → ⊥
+    other r = omega (arith, steps-root labels (suc most) v r)
 
     one : suc most - 1 ≡ most
     one = omega arith
 
 -- A junction that the chain of v meets
-record Met (s : List ℕ) (u v : ℕ) : Type 0 where
-  on-map : u < junctionsOf s
-  ancestor : Ancestor (parentsOf s) u v
+record Met (labels : List ℕ) (u v : ℕ) : Type 0 where
+  on-map : u < junctionsOf labels
+  ancestor : Ancestor (parentsOf labels) u v
 
-module _ (s : List ℕ) (fits : AllFit s) where
+module _ (labels : List ℕ) (fits : AllFit labels) where
   -- each is a junction and an ancestor
-  all-met : (most k v : ℕ) {u : ℕ} → v < junctionsOf s → k ≤ stepsUp s most v → List·Memᴰ u (met s k v) → Met s u v
+  all-met : (most k v : ℕ) {u : ℕ} → v < junctionsOf labels → k ≤ stepsUp labels most v → List·Memᴰ u (met labels k v) → Met labels u v
   unfolding met
   all-met most zero v {u} below h m =
       ⊎-elim
@@ -64,77 +64,77 @@ module _ (s : List ℕ) (fits : AllFit s) where
       (λ z. absurd (List·Memᴰ·not-nil z))
       (List·Memᴰ·cases-cons m)
   all-met most (suc k) v {u} below h m =
-      pick (all-met (most - 1) k (parentAt s v) {u = u} up (step .further)) (List·Memᴰ·cases-cons m)
+      pick (all-met (most - 1) k (parentAt labels v) {u = u} up (step .further)) (List·Memᴰ·cases-cons m)
     where
-      step : Stepped s most k v
-      step = stepped s most k v h
+      step : Stepped labels most k v
+      step = stepped labels most k v h
 
-      up : parentAt s v < junctionsOf s
-      up = parent-on-map s v (fits v below) (step .no-root)
+      up : parentAt labels v < junctionsOf labels
+      up = parent-on-map labels v (fits v below) (step .no-root)
 
-      pick : (List·Memᴰ u (met s k (parentAt s v)) → Met s u (parentAt s v)) → (u ≡ v) ⊎ List·Memᴰ u (met s k (parentAt s v)) → Met s u v
+      pick : (List·Memᴰ u (met labels k (parentAt labels v)) → Met labels u (parentAt labels v)) → (u ≡ v) ⊎ List·Memᴰ u (met labels k (parentAt labels v)) → Met labels u v
       pick f (inl e) = record { on-map = omega arith; ancestor = inl e }
       pick f (inr z) =
           record {
             on-map = f z .on-map;
-            ancestor = inr (above-child (parents-child s v below (step .no-root)) (f z .ancestor));
+            ancestor = inr (above-child (parents-child labels v below (step .no-root)) (f z .ancestor));
           }
 
   -- ---- Chains that do not return end
 
-  module _ (apart : (v : ℕ) → v < junctionsOf s → Returns (parentsOf s) v → ⊥) where
+  module _ (apart : (v : ℕ) → v < junctionsOf labels → Returns (parentsOf labels) v → ⊥) where
     -- none is met twice
-    none-met-twice : (most k v : ℕ) → v < junctionsOf s → k ≤ stepsUp s most v → NoneTwice (met s k v)
+    none-met-twice : (most k v : ℕ) → v < junctionsOf labels → k ≤ stepsUp labels most v → NoneTwice (met labels k v)
     unfolding met
     none-met-twice most zero v below h = next List·Memᴰ·not-nil none
     none-met-twice most (suc k) v below h =
-        let step = stepped s most k v h in
-        let up = parent-on-map s v (fits v below) (step .no-root) in
+        let step = stepped labels most k v h in
+        let up = parent-on-map labels v (fits v below) (step .no-root) in
         next
         (λ m.
         apart v below
         (record {
           at = v;
           met = inl refl;
-          again = above-child (parents-child s v below (step .no-root)) (all-met (most - 1) k (parentAt s v) up (step .further) m .ancestor);
+          again = above-child (parents-child labels v below (step .no-root)) (all-met (most - 1) k (parentAt labels v) up (step .further) m .ancestor);
         }))
-        (none-met-twice (most - 1) k (parentAt s v) up (step .further))
+        (none-met-twice (most - 1) k (parentAt labels v) up (step .further))
 
     -- n steps would meet n + 1 junctions, and there are n
-    pub chains-end : AllEnd s
+    pub chains-end : AllEnd labels
     unfolding depthOf
-    chains-end v below = pick (decLt (stepsUp s (junctionsOf s) v) (junctionsOf s))
+    chains-end v below = pick (decLt (stepsUp labels (junctionsOf labels) v) (junctionsOf labels))
       where
-        pick : Dec (stepsUp s (junctionsOf s) v < junctionsOf s) → stepsUp s (junctionsOf s) v < junctionsOf s
+        pick : Dec (stepsUp labels (junctionsOf labels) v < junctionsOf labels) → stepsUp labels (junctionsOf labels) v < junctionsOf labels
         pick (yes h) = h
         pick (no h) =
-            let far : junctionsOf s ≤ stepsUp s (junctionsOf s) v = omega arith in
-            let once = none-met-twice (junctionsOf s) (junctionsOf s) v below far in
-            let short : length (met s (junctionsOf s) v) ≤ junctionsOf s =
-            visits-once-short (junctionsOf s) once (λ u m. all-met (junctionsOf s) (junctionsOf s) v below far m .on-map) in
-            absurd (omega (arith, met-length s (junctionsOf s) v))
+            let far : junctionsOf labels ≤ stepsUp labels (junctionsOf labels) v = omega arith in
+            let once = none-met-twice (junctionsOf labels) (junctionsOf labels) v below far in
+            let short : length (met labels (junctionsOf labels) v) ≤ junctionsOf labels =
+            visits-once-short (junctionsOf labels) once (λ u m. all-met (junctionsOf labels) (junctionsOf labels) v below far m .on-map) in
+            absurd (omega (arith, met-length labels (junctionsOf labels) v))
 
 -- ---- Chains that end do not return
 
 -- a chain that returns would go up for ever
-pub ends-not-returns : (s : List ℕ) {v : ℕ} → AllEnd s → Returns (parentsOf s) v → ⊥
-ends-not-returns s ends r = omega (arith, above-shallower s ends (r .again))
+pub ends-not-returns : (labels : List ℕ) {v : ℕ} → AllEnd labels → Returns (parentsOf labels) v → ⊥
+ends-not-returns labels ends r = omega (arith, above-shallower labels ends (r .again))
 
 -- ---- 15 is given exactly where "parent not below n and not 65,535, or a parent chain that returns"
 
 -- Every parent is a junction or none, and no chain returns
-pub record NoneReturns (s : List ℕ) : Type 0 where
-  pub fits : AllFit s
-  pub apart : (v : ℕ) → v < junctionsOf s → Returns (parentsOf s) v → ⊥
+pub record NoneReturns (labels : List ℕ) : Type 0 where
+  pub fits : AllFit labels
+  pub apart : (v : ℕ) → v < junctionsOf labels → Returns (parentsOf labels) v → ⊥
 
 -- what passes has no fault, and what has none passes
-pub passed-apart : (s : List ℕ) → parentsPass s ≡ true → NoneReturns s
-passed-apart s e = record { fits = passed-fits s e; apart = λ v below. ends-not-returns s (passed-ends s e) }
+pub passed-apart : (labels : List ℕ) → parentsPass labels ≡ true → NoneReturns labels
+passed-apart labels e = record { fits = passed-fits labels e; apart = λ v below. ends-not-returns labels (passed-ends labels e) }
 
-pub apart-passed : {s : List ℕ} → NoneReturns s → parentsPass s ≡ true
+pub apart-passed : {labels : List ℕ} → NoneReturns labels → parentsPass labels ≡ true
 unfolding chainEnds
-apart-passed {s} kept =
+apart-passed {labels} kept =
     and-true
-    (every-all (parentFits s) (junctionsOf s) (kept .fits))
-    (every-all (chainEnds s) (junctionsOf s) (λ v below.
-    lt-ltb (depthOf s v) (junctionsOf s) (chains-end s (kept .fits) (kept .apart) v below)))
+    (every-all (parentFits labels) (junctionsOf labels) (kept .fits))
+    (every-all (chainEnds labels) (junctionsOf labels) (λ v below.
+    lt-ltb (depthOf labels v) (junctionsOf labels) (chains-end labels (kept .fits) (kept .apart) v below)))

@@ -6,7 +6,7 @@ use Prim.Native.Nat.{ℕ, _+_, _*_}
 use lib.Dec.{ltb, eqb}
 use Rattle.paths.specs.Forest.{Parents}
 use Rattle.bytes.specs.Bytes.{u16At, u32At}
-use Rattle.network.specs.NetworkFile.{versionOf, junctionsOf}
+use Rattle.network.specs.NetworkFile.{headerBytes, versionOf, junctionsOf}
 use Rattle.forest.specs.LabelVersions.{entryBytes, firstTime, firstEnergy, stride}
 
 -- E, in bytes 8 to 11
@@ -14,15 +14,22 @@ abbrev pub entriesOf : List ℕ → ℕ
 entriesOf labels = u32At labels 8
 
 -- The parents, behind the header
+abbrev pub parentBytes : ℕ
+parentBytes = 2
+
 abbrev pub parentAt : List ℕ → ℕ → ℕ
-parentAt labels v = u16At labels (16 + 2 * v)
+parentAt labels v = u16At labels (headerBytes + parentBytes * v)
+
+-- The byte behind the parent of v
+abbrev pub parentEnd : ℕ → ℕ
+parentEnd v = headerBytes + parentBytes + parentBytes * v
 
 abbrev pub noParent : ℕ
 noParent = 65535
 
 -- The byte behind the parents, where the first list starts
 abbrev pub listsFrom : List ℕ → ℕ
-listsFrom labels = 16 + 2 * junctionsOf labels
+listsFrom labels = headerBytes + parentBytes * junctionsOf labels
 
 -- The parents as a function; what is no junction has none
 unfoldable pub parentsOf : List ℕ → Parents

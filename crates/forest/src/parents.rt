@@ -4,18 +4,19 @@ use crate::feet::fill_feet;
 use crate::feet::is_above;
 use bytes::u16_at;
 use bytes::u32_at;
+use network::header::HEADER_BYTES;
 use network::header::junctions_of;
 use network::header::roads_of;
 use network::roads::road_high;
 use network::roads::road_low;
 ghost use mathlib.Core.Path.{_≡_};
 ghost use mathlib.Core.Bool.{true};
-ghost use Prim.Native.Nat.{_+_, _*_, _≤_, _<_};
+ghost use Prim.Native.Nat.{_≤_, _<_};
 ghost use lib.ListN.{length};
 ghost use Rattle.refusals.specs.Order.{every};
 ghost use Rattle.bytes.specs.working.Reads.{Read16};
-ghost use Rattle.network.specs.NetworkFile.{junctionsOf, roadsOf};
-ghost use Rattle.forest.specs.LabelFile.{entriesOf, parentAt, listsFrom};
+ghost use Rattle.network.specs.NetworkFile.{headerBytes, junctionsOf, roadsOf};
+ghost use Rattle.forest.specs.LabelFile.{entriesOf, parentAt, parentEnd, listsFrom};
 ghost use Rattle.forest.specs.Forest.{depthOf, parentFits, isAncestor, roadJoins};
 ghost use Rattle.forest.specs.working.Fits.{ParentsFit, DepthsFilled};
 ghost use Rattle.network.specs.working.Fits.{NetworkFits};
@@ -23,16 +24,18 @@ ghost use Rattle.forest.specs.working.ParentsRead.{ParentsStand, Climbab
 
 pub const NO_PARENT: u32 = 65535;
 
+const PARENT_BYTES: usize = 2;
+
 pub fn parent_at(labels: &[u8], v: usize) -> u32
-    requires { ⌜ 18 + 2 * v ≤ length (now labels) ⌝ }
+    requires { ⌜ parentEnd v ≤ length (now labels) ⌝ }
     ensures { λ r. ⌜ Read16 (parentAt (now (labels .entry)) v) r ⌝ }
 {
-    u16_at(labels, 16 + 2 * v)
+    u16_at(labels, HEADER_BYTES + PARENT_BYTES * v)
 }
 
 // E, the count of all entries.
 pub fn entries_of(labels: &[u8]) -> u32
-    requires { ⌜ 16 ≤ length (now labels) ⌝ }
+    requires { ⌜ headerBytes ≤ length (now labels) ⌝ }
     ensures { λ r. ⌜ r ≡ entriesOf (now (labels .entry)) ⌝ }
 {
     u32_at(labels, 8)
@@ -40,16 +43,16 @@ pub fn entries_of(labels: &[u8]) -> u32
 
 // The byte behind the parents, where the first list starts.
 pub fn lists_from(labels: &[u8]) -> usize
-    requires { ⌜ 16 ≤ length (now labels) ⌝ }
+    requires { ⌜ headerBytes ≤ length (now labels) ⌝ }
     ensures { λ r. ⌜ r ≡ listsFrom (now (labels .entry)) ⌝ }
 {
     let n = junctions_of(labels) as usize;
-    16 + 2 * n
+    HEADER_BYTES + PARENT_BYTES * n
 }
 
 fn parent_fits(labels: &[u8], n: u32, v: usize) -> bool
     requires { ⌜ n ≡ junctionsOf (now labels) ⌝ }
-    requires { ⌜ 18 + 2 * v ≤ length (now labels) ⌝ }
+    requires { ⌜ parentEnd v ≤ length (now labels) ⌝ }
     ensures { λ r. ⌜ r ≡ parentFits (now (labels .entry)) v ⌝ }
 {
     let parent = parent_at(labels, v);

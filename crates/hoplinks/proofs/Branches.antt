@@ -21,73 +21,73 @@ use Rattle.hoplinks.specs.working.Meeting.{MeetsAt}
 -- ---- No step, and a depth read
 
 -- a junction that is no deeper stays where it is
-pub no-climb : (s : List ℕ) (v from to : ℕ) → from ≤ to → ancestorOf s v (from - to) ≡ v
-no-climb s v from to h = let none : from - to ≡ 0 = omega arith in rw none (ancestor-none s v)
+pub no-climb : (labels : List ℕ) (v from to : ℕ) → from ≤ to → ancestorOf labels v (from - to) ≡ v
+no-climb labels v from to h = let none : from - to ≡ 0 = omega arith in rw none (ancestor-none labels v)
 
 -- the table has the depth
-pub depth-read : {s depths : List ℕ} {v : ℕ} → DepthsFilled s depths → v < junctionsOf s → getD depths v 0 ≡ depthOf s v
+pub depth-read : {labels depths : List ℕ} {v : ℕ} → DepthsFilled labels depths → v < junctionsOf labels → getD depths v 0 ≡ depthOf labels v
 depth-read {v = v} filled below = filled .depth v below
 
 -- ---- Ancestors by depth
 
 -- u stands k steps above v
-record Raised (s : List ℕ) (v k u : ℕ) : Type 0 where
-  up : Ancestor (parentsOf s) u v
-  depth : depthOf s u + k ≡ depthOf s v
+record Raised (labels : List ℕ) (v k u : ℕ) : Type 0 where
+  up : Ancestor (parentsOf labels) u v
+  depth : depthOf labels u + k ≡ depthOf labels v
 
-module _ {s : List ℕ} (fit : ParentsFit s) where
+module _ {labels : List ℕ} (fit : ParentsFit labels) where
   -- where a climb by k steps leads
-  raised-up : {v k u : ℕ} → v < junctionsOf s → k ≤ depthOf s v → AncestorRead s v k u → Raised s v k u
+  raised-up : {v k u : ℕ} → v < junctionsOf labels → k ≤ depthOf labels v → AncestorRead labels v k u → Raised labels v k u
   raised-up {v} {k} below h read =
       rw (read .is) (record { up = ancestor-is-up fit k v below h; depth = climbed fit k v below h .depth })
 
   -- an ancestor is no deeper, and of the same depth only the junction itself
-  pub no-deeper : {u v : ℕ} → Ancestor (parentsOf s) u v → depthOf s u ≤ depthOf s v
-  no-deeper (inl e) = omega (arith, ap (depthOf s) e)
-  no-deeper (inr above) = omega (arith, above-shallower s (fit .ends) above)
+  pub no-deeper : {u v : ℕ} → Ancestor (parentsOf labels) u v → depthOf labels u ≤ depthOf labels v
+  no-deeper (inl e) = omega (arith, ap (depthOf labels) e)
+  no-deeper (inr above) = omega (arith, above-shallower labels (fit .ends) above)
 
-  pub level-same : {u v : ℕ} → Ancestor (parentsOf s) u v → depthOf s u ≡ depthOf s v → u ≡ v
+  pub level-same : {u v : ℕ} → Ancestor (parentsOf labels) u v → depthOf labels u ≡ depthOf labels v → u ≡ v
   level-same (inl e) level = e
-  level-same (inr above) level = absurd (omega (arith, above-shallower s (fit .ends) above))
+  level-same (inr above) level = absurd (omega (arith, above-shallower labels (fit .ends) above))
 
   -- of two related junctions the one that is no deeper is the ancestor
-  pub shallower-ancestor : {u v : ℕ} → Related (parentsOf s) u v → depthOf s u ≤ depthOf s v → Ancestor (parentsOf s) u v
+  pub shallower-ancestor : {u v : ℕ} → Related (parentsOf labels) u v → depthOf labels u ≤ depthOf labels v → Ancestor (parentsOf labels) u v
   shallower-ancestor (inl up) h = up
   shallower-ancestor (inr down) h = inl (sym (level-same down (omega (arith, no-deeper down))))
 
   -- and a proper one where it is less deep
-  pub strictly-above : {u v : ℕ} → Ancestor (parentsOf s) u v → depthOf s u < depthOf s v → Above (parentsOf s) u v
-  strictly-above (inl e) h = absurd (omega (arith, ap (depthOf s) e))
+  pub strictly-above : {u v : ℕ} → Ancestor (parentsOf labels) u v → depthOf labels u < depthOf labels v → Above (parentsOf labels) u v
+  strictly-above (inl e) h = absurd (omega (arith, ap (depthOf labels) e))
   strictly-above (inr above) h = above
 
   -- so it is with two ancestors of one junction
-  pub stays-above : {u a v : ℕ} → Ancestor (parentsOf s) u v → Ancestor (parentsOf s) a v → depthOf s u ≤ depthOf s a → Ancestor (parentsOf s) u a
+  pub stays-above : {u a v : ℕ} → Ancestor (parentsOf labels) u v → Ancestor (parentsOf labels) a v → depthOf labels u ≤ depthOf labels a → Ancestor (parentsOf labels) u a
   stays-above h k shallow = shallower-ancestor (ancestors-related h k) shallow
 
   -- what is above two different junctions of one depth is a proper ancestor
-  level-proper : {a b u : ℕ} → depthOf s a ≡ depthOf s b → (a ≡ b → ⊥) → Ancestor (parentsOf s) u a → Ancestor (parentsOf s) u b → Above (parentsOf s) u a
+  level-proper : {a b u : ℕ} → depthOf labels a ≡ depthOf labels b → (a ≡ b → ⊥) → Ancestor (parentsOf labels) u a → Ancestor (parentsOf labels) u b → Above (parentsOf labels) u a
   level-proper level apart h k = ⊎-elim (λ e. absurd (apart (level-same (rw e at k) level))) (λ above. above) h
 
 -- ---- The climb side by side
 
 -- left and right stand above x and y at one depth, and what is common to x and y is common to them
-pub record SideBySide (s : List ℕ) (x y left right : ℕ) : Type 0 where
-  pub left-on-map : left < junctionsOf s
-  pub right-on-map : right < junctionsOf s
-  pub level : depthOf s left ≡ depthOf s right
-  pub left-up : Ancestor (parentsOf s) left x
-  pub right-up : Ancestor (parentsOf s) right y
-  pub kept : (u : ℕ) → Common (parentsOf s) x y u → Common (parentsOf s) left right u
+pub record SideBySide (labels : List ℕ) (x y left right : ℕ) : Type 0 where
+  pub left-on-map : left < junctionsOf labels
+  pub right-on-map : right < junctionsOf labels
+  pub level : depthOf labels left ≡ depthOf labels right
+  pub left-up : Ancestor (parentsOf labels) left x
+  pub right-up : Ancestor (parentsOf labels) right y
+  pub kept : (u : ℕ) → Common (parentsOf labels) x y u → Common (parentsOf labels) left right u
 
-module _ {s depths : List ℕ} (fit : ParentsFit s) (filled : DepthsFilled s depths) where
+module _ {labels depths : List ℕ} (fit : ParentsFit labels) (filled : DepthsFilled labels depths) where
   -- the deeper of the two was raised to the depth of the other
   pub side-start :
       {x y left right : ℕ} →
-      x < junctionsOf s →
-      y < junctionsOf s →
-      AncestorRead s x (getD depths x 0 - getD depths y 0) left →
-      AncestorRead s y (getD depths y 0 - getD depths x 0) right →
-      SideBySide s x y left right
+      x < junctionsOf labels →
+      y < junctionsOf labels →
+      AncestorRead labels x (getD depths x 0 - getD depths y 0) left →
+      AncestorRead labels y (getD depths y 0 - getD depths x 0) right →
+      SideBySide labels x y left right
   side-start {x} {y} {left} {right} x-below y-below left-read right-read =
       record {
         left-on-map = left-read .on-map;
@@ -102,21 +102,21 @@ module _ {s depths : List ℕ} (fit : ParentsFit s) (filled : DepthsFilled s dep
             };
       }
     where
-      x-depth : getD depths x 0 ≡ depthOf s x
+      x-depth : getD depths x 0 ≡ depthOf labels x
       x-depth = filled .depth x x-below
 
-      y-depth : getD depths y 0 ≡ depthOf s y
+      y-depth : getD depths y 0 ≡ depthOf labels y
       y-depth = filled .depth y y-below
 
-      from-x : Raised s x (getD depths x 0 - getD depths y 0) left
+      from-x : Raised labels x (getD depths x 0 - getD depths y 0) left
       from-x = raised-up fit x-below (omega (arith, x-depth)) left-read
 
-      from-y : Raised s y (getD depths y 0 - getD depths x 0) right
+      from-y : Raised labels y (getD depths y 0 - getD depths x 0) right
       from-y = raised-up fit y-below (omega (arith, y-depth)) right-read
 
-  module _ {x y left right : ℕ} (now : SideBySide s x y left right) where
+  module _ {x y left right : ℕ} (now : SideBySide labels x y left right) where
     -- met: what is common to x and y is above the place where they meet
-    pub side-met : left ≡ right → MeetsAt s x y left
+    pub side-met : left ≡ right → MeetsAt labels x y left
     side-met e =
         record {
           on-map = now .left-on-map;
@@ -125,38 +125,38 @@ module _ {s depths : List ℕ} (fit : ParentsFit s) (filled : DepthsFilled s dep
 
     module _ (apart : left ≡ right → ⊥) where
       -- not met: what is common is above both
-      above-left : (u : ℕ) → Common (parentsOf s) x y u → Above (parentsOf s) u left
+      above-left : (u : ℕ) → Common (parentsOf labels) x y u → Above (parentsOf labels) u left
       above-left u c = let k = now .kept u c in level-proper fit (now .level) apart (k .of-start) (k .of-finish)
 
-      above-right : (u : ℕ) → Common (parentsOf s) x y u → Above (parentsOf s) u right
+      above-right : (u : ℕ) → Common (parentsOf labels) x y u → Above (parentsOf labels) u right
       above-right u c = let k = now .kept u c in level-proper fit (sym (now .level)) (λ e. apart (sym e)) (k .of-finish) (k .of-start)
 
       -- different roots have nothing above them
-      pub side-roots : getD depths left 0 ≡ 0 → (u : ℕ) → Common (parentsOf s) x y u → ⊥
-      side-roots root u c = omega (arith, filled .depth left (now .left-on-map), above-shallower s (fit .ends) (above-left u c))
+      pub side-roots : getD depths left 0 ≡ 0 → (u : ℕ) → Common (parentsOf labels) x y u → ⊥
+      side-roots root u c = omega (arith, filled .depth left (now .left-on-map), above-shallower labels (fit .ends) (above-left u c))
 
-      module _ (deep : getD depths left 0 ≡ 0 → ⊥) {up-left : ℕ} (left-is : ReadU16 s (16 + 2 * left) up-left) where
-        left-deep : 1 ≤ depthOf s left
+      module _ (deep : getD depths left 0 ≡ 0 → ⊥) {up-left : ℕ} (left-is : ReadU16 labels (16 + 2 * left) up-left) where
+        left-deep : 1 ≤ depthOf labels left
         left-deep = omega (arith, deep, filled .depth left (now .left-on-map))
 
         -- one step less is left to the root
-        pub side-less : depthOf s up-left < depthOf s left
-        side-less = rw (left-is .is) (omega (arith, one-up fit left (now .left-on-map) (depth-some s left left-deep) .depth))
+        pub side-less : depthOf labels up-left < depthOf labels left
+        side-less = rw (left-is .is) (omega (arith, one-up fit left (now .left-on-map) (depth-some labels left left-deep) .depth))
 
         -- both climb a step
-        pub side-more : {up-right : ℕ} → ReadU16 s (16 + 2 * right) up-right → SideBySide s x y up-left up-right
+        pub side-more : {up-right : ℕ} → ReadU16 labels (16 + 2 * right) up-right → SideBySide labels x y up-left up-right
         side-more {up-right} right-is = rw (left-is .is, right-is .is) both
           where
-            left-child : parentAt s left ≡ noParent → ⊥
-            left-child = depth-some s left left-deep
+            left-child : parentAt labels left ≡ noParent → ⊥
+            left-child = depth-some labels left left-deep
 
-            right-child : parentAt s right ≡ noParent → ⊥
-            right-child = depth-some s right (omega (arith, left-deep, now .level))
+            right-child : parentAt labels right ≡ noParent → ⊥
+            right-child = depth-some labels right (omega (arith, left-deep, now .level))
 
-            both : SideBySide s x y (parentAt s left) (parentAt s right)
+            both : SideBySide labels x y (parentAt labels left) (parentAt labels right)
             both =
-                let from-left = parents-child s left (now .left-on-map) left-child in
-                let from-right = parents-child s right (now .right-on-map) right-child in
+                let from-left = parents-child labels left (now .left-on-map) left-child in
+                let from-right = parents-child labels right (now .right-on-map) right-child in
                 let left-step = one-up fit left (now .left-on-map) left-child in
                 let right-step = one-up fit right (now .right-on-map) right-child in
                 record {

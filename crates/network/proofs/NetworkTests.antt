@@ -1,6 +1,6 @@
 -- The tests of a network file one by one, in the shape in which the code meets them.
 -- In this order: 5, the record before; 5, the ends; 6; a record; 4; the header; what a header that passed says; which decides.
-use mathlib.Core.Path.{_≡_, refl, sym, _∙_}
+use mathlib.Core.Path.{_≡_, refl, sym, ap, _∙_}
 use mathlib.Core.Bool.{Bool, true, false, not, _&&_, _||_}
 use mathlib.Core.List.{List}
 use Prim.Native.Nat.{ℕ, zero, suc, _+_, _-_, _*_, _≤_, _<_}
@@ -84,7 +84,9 @@ module _ (net : List ℕ) (k : ℕ) {seconds : ℕ} {takes : Bool} (time-is : Re
   -- some time, and the energy decides
   pub figures-energy : {energy version least : ℕ} {spends : Bool} → not takes ≡ false → Read16 (roadEnergy net k) energy → Read16 (versionOf net) version → least ≡ leastEnergy version → spends ≡ leb least energy → spends ≡ figuresFit net k
   unfolding figuresFit
-  figures-energy holds energy-is version-is least-is spends-is = rw (← time-is .is, ← takes-is, not-false takes holds, ← energy-is .is, ← least-is) spends-is
+  figures-energy {energy} holds energy-is version-is least-is spends-is =
+      rw (← time-is .is, ← takes-is, not-false takes holds, ← energy-is .is)
+      (spends-is ∙ ap (λ least. leb least energy) (least-is ∙ ap leastEnergy (version-is .is)))
 
 -- ---- A record
 

@@ -78,10 +78,6 @@ module _ (s : List ℕ) (v : ℕ) where
     pub nextRoad-low : k ≤ nextRoad s v k
     nextRoad-low = whole .not-before
 
-    -- it is m at the most
-    pub nextRoad-bound : k ≤ roadsOf s → nextRoad s v k ≤ roadsOf s
-    nextRoad-bound h = let within = whole .within in omega arith
-
     -- it has v for an end
     pub nextRoad-touches : nextRoad s v k < roadsOf s → touches s v (nextRoad s v k) ≡ true
     nextRoad-touches h = let low = whole .not-before in whole .found (omega arith)

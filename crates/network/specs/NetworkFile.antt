@@ -21,9 +21,16 @@ roadsOf net = u32At net 8
 abbrev pub identityOf : List ℕ → ℕ
 identityOf file = u32At file 12
 
--- Where a byte of record k stands: the records follow the header's 16 bytes, all of one length
+abbrev pub headerBytes : ℕ
+headerBytes = 16
+
+-- Where a byte of record k stands: the records follow the header, all of one length
 abbrev pub recordAt : List ℕ → ℕ → ℕ → ℕ
-recordAt net k byte = 16 + byte + recordBytes (versionOf net) * k
+recordAt net k byte = headerBytes + byte + recordBytes (versionOf net) * k
+
+-- The byte behind record k
+abbrev pub recordEnd : List ℕ → ℕ → ℕ
+recordEnd net k = recordAt net k (recordBytes (versionOf net))
 
 -- Record k (SCOPE 3.2)
 abbrev pub roadLow : List ℕ → ℕ → ℕ

@@ -8,7 +8,7 @@ use Rattle.refusals.specs.Order.{unless, decided, firstFault}
 use Rattle.bytes.specs.Bytes.{marked}
 use Rattle.network.specs.declared.versions.Served.{Served}
 use Rattle.network.specs.Versions.{served, leastEnergy}
-use Rattle.network.specs.NetworkFile.{versionOf, junctionsOf, roadsOf, recordAt, roadLow, roadHigh, roadTime, roadEnergy}
+use Rattle.network.specs.NetworkFile.{versionOf, junctionsOf, roadsOf, headerBytes, recordAt, roadLow, roadHigh, roadTime, roadEnergy}
 
 -- ---- A record
 
@@ -43,7 +43,7 @@ sizesFit net = leb 1 (junctionsOf net) && leb (junctionsOf net) 1024 && leb (roa
 -- The header's number, 0 where the records decide
 unfoldable pub headerNumber : Served → List ℕ → ℕ
 headerNumber serves net =
-    unless (leb 16 (length net)) 1
+    unless (leb headerBytes (length net)) 1
     (unless (marked 84 82 78 net) 2
     (unless (served serves (versionOf net)) 3
     (unless (sizesFit net) 4

@@ -1,4 +1,5 @@
 // The network file: the number that it is refused by.
+use super::header::HEADER_BYTES;
 use super::header::junctions_of;
 use super::header::roads_of;
 use super::header::version_of;
@@ -6,19 +7,21 @@ use super::roads::road_energy;
 use super::roads::road_high;
 use super::roads::road_low;
 use super::roads::road_time;
+use super::versions::RECORD_BYTES;
 use super::versions::Served;
 use super::versions::least_energy;
 use bytes::marked;
 use paths::seconds::Seconds;
 ghost use mathlib.Core.Path.{_≡_};
-ghost use Prim.Native.Nat.{_+_, _*_, _≤_};
+ghost use Prim.Native.Nat.{_≤_};
 ghost use lib.ListN.{length};
 ghost use Rattle.refusals.specs.Order.{firstFault};
+ghost use Rattle.network.specs.NetworkFile.{headerBytes, recordAt, recordEnd};
 ghost use Rattle.network.specs.NetworkNumber.{recordRises, endsFit, figuresFit, recordNumber, sizesFit, headerNumber, netNumber};
 
 // Record k stands after the one before.
 fn record_rises(net: &[u8], k: usize) -> bool
-    requires { ⌜ 24 + 8 * k ≤ length (now net) ⌝ }
+    requires { ⌜ recordEnd (now net) k ≤ length (now net) ⌝ }
     ensures { λ r. ⌜ r ≡ recordRises (now (net .entry)) k ⌝ }
 {
     if k == 0 {
@@ -38,7 +41,7 @@ fn record_rises(net: &[u8], k: usize) -> bool
 }
 
 fn ends_fit(net: &[u8], k: usize) -> bool
-    requires { ⌜ 24 + 8 * k ≤ length (now net) ⌝ }
+    requires { ⌜ recordEnd (now net) k ≤ length (now net) ⌝ }
     ensures { λ r. ⌜ r ≡ endsFit (now (net .entry)) k ⌝ }
 {
     let low = road_low(net, k);
@@ -54,7 +57,7 @@ fn ends_fit(net: &[u8], k: usize) -> bool
 }
 
 fn figures_fit(net: &[u8], k: usize) -> bool
-    requires { ⌜ 24 + 8 * k ≤ length (now net) ⌝ }
+    requires { ⌜ recordEnd (now net) k ≤ length (now net) ⌝ }
     ensures { λ r. ⌜ r ≡ figuresFit (now (net .entry)) k ⌝ }
 {
     let time = road_time(net, k);
@@ -69,7 +72,7 @@ fn figures_fit(net: &[u8], k: usize) -> bool
 
 // 5 or 6 for record k, or 0.
 fn record_number(net: &[u8], k: usize) -> u32
-    requires { ⌜ 24 + 8 * k ≤ length (now net) ⌝ }
+    requires { ⌜ recordEnd (now net) k ≤ length (now net) ⌝ }
     ensures { λ r. ⌜ r ≡ recordNumber (now (net .entry)) k ⌝ }
 {
     if !ends_fit(net, k) {
@@ -83,7 +86,7 @@ fn record_number(net: &[u8], k: usize) -> u32
 
 // The number of the first record that is refused, or 0.
 fn records_number(net: &[u8], roads: usize) -> u32
-    requires { ⌜ 16 + 8 * roads ≤ length (now net) ⌝ }
+    requires { ⌜ recordAt (now net) roads 0 ≤ length (now net) ⌝ }
     ensures { λ r. ⌜ r ≡ firstFault (recordNumber (now (net .entry))) 0 roads ⌝ }
 {
     let mut k: usize = 0;
@@ -98,7 +101,7 @@ fn records_number(net: &[u8], roads: usize) -> u32
 }
 
 fn sizes_fit(net: &[u8]) -> bool
-    requires { ⌜ 16 ≤ length (now net) ⌝ }
+    requires { ⌜ headerBytes ≤ length (now net) ⌝ }
     ensures { λ r. ⌜ r ≡ sizesFit (now (net .entry)) ⌝ }
 {
     let junctions = junctions_of(net);
@@ -116,7 +119,7 @@ fn sizes_fit(net: &[u8]) -> bool
 fn header_number(net: &[u8], serves: Served) -> u32
     ensures { λ r. ⌜ r ≡ headerNumber serves (now (net .entry)) ⌝ }
 {
-    if net.len() < 16 {
+    if net.len() < HEADER_BYTES {
         return 1;
     }
     if !marked(b'T', b'R', b'N', net) {
@@ -129,7 +132,7 @@ fn header_number(net: &[u8], serves: Served) -> u32
         return 4;
     }
     let roads = roads_of(net) as usize;
-    if net.len() != 16 + 8 * roads {
+    if net.len() != HEADER_BYTES + RECORD_BYTES * roads {
         return 1;
     }
     0

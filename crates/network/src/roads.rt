@@ -1,6 +1,7 @@
 // The roads of a network that passed, and the roads at each junction in file order.
+use crate::header::roads_of;
+use crate::versions::RECORD_BYTES;
 use bytes::u16_at;
-use bytes::u32_at;
 use paths::energy::Energy;
 use paths::seconds::Seconds;
 use tables::FIRSTS;
@@ -12,46 +13,55 @@ ghost use Prim.Native.Nat.{suc, _+_, _*_, _≤_, _<_};
 ghost use lib.ListN.{length, getD};
 ghost use Rattle.tables.specs.working.Layout.{firstsFrom, tablePlaces, StaysBelow};
 ghost use Rattle.bytes.specs.working.Reads.{ReadU16};
-ghost use Rattle.network.specs.NetworkFile.{roadsOf};
+ghost use Rattle.network.specs.NetworkFile.{roadsOf, recordAt, recordEnd};
 ghost use Rattle.network.specs.working.Roads.{touches, nextRoad, Grouped};
 ghost use Rattle.network.specs.working.RoadsRead.{ReadOther, FirstsFilled, GroupedFrom};
 ghost use Rattle.network.specs.working.Fits.{NetworkFits};
 
+// Where the numbers of the first record stand.
+const LOW: usize = 16;
+
+const HIGH: usize = 18;
+
+const TIME: usize = 20;
+
+const ENERGY: usize = 22;
+
 // The lower end of road k.
 pub fn road_low(net: &[u8], k: usize) -> usize
-    requires { ⌜ 24 + 8 * k ≤ length (now net) ⌝ }
-    ensures { λ r. ⌜ ReadU16 (now (net .entry)) (16 + 8 * k) r ⌝ }
+    requires { ⌜ recordEnd (now net) k ≤ length (now net) ⌝ }
+    ensures { λ r. ⌜ ReadU16 (now (net .entry)) (recordAt (now (net .entry)) k 0) r ⌝ }
 {
-    u16_at(net, 16 + 8 * k) as usize
+    u16_at(net, LOW + RECORD_BYTES * k) as usize
 }
 
 // The higher end of road k.
 pub fn road_high(net: &[u8], k: usize) -> usize
-    requires { ⌜ 24 + 8 * k ≤ length (now net) ⌝ }
-    ensures { λ r. ⌜ ReadU16 (now (net .entry)) (18 + 8 * k) r ⌝ }
+    requires { ⌜ recordEnd (now net) k ≤ length (now net) ⌝ }
+    ensures { λ r. ⌜ ReadU16 (now (net .entry)) (recordAt (now (net .entry)) k 2) r ⌝ }
 {
-    u16_at(net, 18 + 8 * k) as usize
+    u16_at(net, HIGH + RECORD_BYTES * k) as usize
 }
 
 // The time of road k.
 pub fn road_time(net: &[u8], k: usize) -> Seconds
-    requires { ⌜ 24 + 8 * k ≤ length (now net) ⌝ }
-    ensures { λ r. ⌜ ReadU16 (now (net .entry)) (20 + 8 * k) (r .0) ⌝ }
+    requires { ⌜ recordEnd (now net) k ≤ length (now net) ⌝ }
+    ensures { λ r. ⌜ ReadU16 (now (net .entry)) (recordAt (now (net .entry)) k 4) (r .0) ⌝ }
 {
-    Seconds(u16_at(net, 20 + 8 * k))
+    Seconds(u16_at(net, TIME + RECORD_BYTES * k))
 }
 
 // The energy of road k.
 pub fn road_energy(net: &[u8], k: usize) -> Energy
-    requires { ⌜ 24 + 8 * k ≤ length (now net) ⌝ }
-    ensures { λ r. ⌜ ReadU16 (now (net .entry)) (22 + 8 * k) (r .0) ⌝ }
+    requires { ⌜ recordEnd (now net) k ≤ length (now net) ⌝ }
+    ensures { λ r. ⌜ ReadU16 (now (net .entry)) (recordAt (now (net .entry)) k 6) (r .0) ⌝ }
 {
-    Energy(u16_at(net, 22 + 8 * k))
+    Energy(u16_at(net, ENERGY + RECORD_BYTES * k))
 }
 
 // The end of road k that is not v.
 pub fn other_end(net: &[u8], v: usize, k: usize) -> usize
-    requires { ⌜ 24 + 8 * k ≤ length (now net) ⌝ }
+    requires { ⌜ recordEnd (now net) k ≤ length (now net) ⌝ }
     ensures { λ r. ⌜ ReadOther (now (net .entry)) v k r ⌝ }
 {
     let low = road_low(net, k);
@@ -92,7 +102,7 @@ pub fn group_roads(net: &[u8], tables: &mut [u32; 13312])
     requires { ⌜ NetworkFits (now net) × (length (now tables) ≡ tablePlaces) ⌝ }
     ensures { λ _. ⌜ Grouped (now (net .entry)) (now (tables .exit)) × StaysBelow firstsFrom (now (tables .entry)) (now (tables .exit)) ⌝ }
 {
-    let roads = u32_at(net, 8);
+    let roads = roads_of(net);
     clear_firsts(roads, tables);
     let mut k = roads as usize;
     while k > 0 {

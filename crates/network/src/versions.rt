@@ -25,6 +25,9 @@ pub fn version_one() -> Served
     Served { first: 1, last: 1 }
 }
 
+// The bytes of a road's record.
+pub const RECORD_BYTES: usize = 8;
+
 // The least energy of a road.
 pub fn least_energy(version: u32) -> Energy
     ensures { λ r. ⌜ r .0 ≡ leastEnergy version ⌝ }

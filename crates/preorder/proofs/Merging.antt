@@ -20,12 +20,12 @@ use Rattle.preorder.proofs.Sums.{sum-set, place-in-sum, sum-ones}
 -- ---- What counts as done
 
 -- the same junctions are done
-module _ {s sizes offsets : List ℕ} {total d v e x : ℕ} where
+module _ {labels sizes offsets : List ℕ} {total d v e x : ℕ} where
   merged-same :
-      ((w : ℕ) → w < junctionsOf s → Deeper s e x w → Deeper s d v w) →
-      ((w : ℕ) → w < junctionsOf s → Deeper s d v w → Deeper s e x w) →
-      Merged s sizes offsets total d v →
-      Merged s sizes offsets total e x
+      ((w : ℕ) → w < junctionsOf labels → Deeper labels e x w → Deeper labels d v w) →
+      ((w : ℕ) → w < junctionsOf labels → Deeper labels d v w → Deeper labels e x w) →
+      Merged labels sizes offsets total d v →
+      Merged labels sizes offsets total e x
   merged-same back forth now =
       let blocks = now .blocks in
       let rests = now .rests in
@@ -53,12 +53,12 @@ module _ {s sizes offsets : List ℕ} {total d v e x : ℕ} where
 
 -- no junction is as deep as there are junctions
 pub merged-none :
-    {s heads nexts sizes offsets : List ℕ} →
-    ParentsFit s →
-    LevelsFrom s heads nexts sizes 0 →
+    {labels heads nexts sizes offsets : List ℕ} →
+    ParentsFit labels →
+    LevelsFrom labels heads nexts sizes 0 →
     length offsets ≡ 1024 →
-    Merged s sizes offsets 0 (junctionsOf s) 1024
-merged-none {s} {sizes = sizes} {offsets} fit levels places =
+    Merged labels sizes offsets 0 (junctionsOf labels) 1024
+merged-none {labels} {sizes = sizes} {offsets} fit levels places =
     record {
       blocks =
           record {
@@ -72,25 +72,25 @@ merged-none {s} {sizes = sizes} {offsets} fit levels places =
           };
       rests =
           record {
-            rests = replicate (junctionsOf s) 1;
-            places = length-replicate {A = ℕ} (junctionsOf s) 1;
-            rest = λ w h left. getD-replicate (junctionsOf s) w 1 0 h ∙ sym (levels .alone w (omega arith) h);
-            all = omega (arith, sum-ones (junctionsOf s));
+            rests = replicate (junctionsOf labels) 1;
+            places = length-replicate {A = ℕ} (junctionsOf labels) 1;
+            rest = λ w h left. getD-replicate (junctionsOf labels) w 1 0 h ∙ sym (levels .alone w (omega arith) h);
+            all = omega (arith, sum-ones (junctionsOf labels));
           };
     }
   where
-    none : (w : ℕ) → w < junctionsOf s → Deeper s (junctionsOf s) 1024 w → ⊥
+    none : (w : ℕ) → w < junctionsOf labels → Deeper labels (junctionsOf labels) 1024 w → ⊥
     none w h done = omega (arith, fit .ends w h)
 
 module _
-    {s sizes offsets : List ℕ} {total v : ℕ} (fit : ParentsFit s) (below : v < junctionsOf s) (now : Merged s sizes offsets total (depthOf s v) v)
+    {labels sizes offsets : List ℕ} {total v : ℕ} (fit : ParentsFit labels) (below : v < junctionsOf labels) (now : Merged labels sizes offsets total (depthOf labels v) v)
   where
     -- w is done before v is, and with v
     abbrev Before : ℕ → Type 0
-    Before w = Deeper s (depthOf s v) v w
+    Before w = Deeper labels (depthOf labels v) v w
 
     abbrev Done : ℕ → Type 0
-    Done w = Deeper s (depthOf s v) (v + 1) w
+    Done w = Deeper labels (depthOf labels v) (v + 1) w
 
     few : v < 1024
     few = omega (arith, fit .few-junctions)
@@ -100,7 +100,7 @@ module _
     v-open done = omega arith
 
     -- what is done then was done before, or is v
-    earlier : (w : ℕ) → w < junctionsOf s → (w ≡ v → ⊥) → Done w → Before w
+    earlier : (w : ℕ) → w < junctionsOf labels → (w ≡ v → ⊥) → Done w → Before w
     earlier w h apart done = omega (arith, few, fit .few-junctions)
 
     later : (w : ℕ) → Before w → Done w
@@ -120,18 +120,18 @@ module _
     -- where v starts behind its siblings that are done, and no block that is done changes its size, blocks stay apart
     apart-more :
         (start : ℕ) (after : List ℕ) →
-        ((w : ℕ) → w < junctionsOf s → Done w → getD after w 0 ≡ getD sizes w 0) →
+        ((w : ℕ) → w < junctionsOf labels → Done w → getD after w 0 ≡ getD sizes w 0) →
         ((w : ℕ) →
-        w < junctionsOf s →
+        w < junctionsOf labels →
         Before w →
-        parentAt s w ≡ parentAt s v →
+        parentAt labels w ≡ parentAt labels v →
         getD offsets w 0 + getD sizes w 0 ≤ start) →
         (u w : ℕ) →
-        u < junctionsOf s →
-        w < junctionsOf s →
+        u < junctionsOf labels →
+        w < junctionsOf labels →
         Done u →
         Done w →
-        parentAt s u ≡ parentAt s w →
+        parentAt labels u ≡ parentAt labels w →
         (u ≡ w → ⊥) →
         Apart (set offsets v start) after u w
     apart-more start after keeps behind u w h k p q same other =
@@ -140,16 +140,16 @@ module _
         pick : Dec (u ≡ v) → Dec (w ≡ v) → Apart (set offsets v start) sizes u w
         pick (yes a) (yes b) = absurd (other (a ∙ sym b))
         pick (yes a) (no b) =
-            inr (rw (a, offset-put start, offset-stays start w b) (behind w k (earlier w k b q) (sym same ∙ ap (parentAt s) a)))
+            inr (rw (a, offset-put start, offset-stays start w b) (behind w k (earlier w k b q) (sym same ∙ ap (parentAt labels) a)))
         pick (no a) (yes b) =
-            inl (rw (b, offset-put start, offset-stays start u a) (behind u h (earlier u h a p) (same ∙ ap (parentAt s) b)))
+            inl (rw (b, offset-put start, offset-stays start u a) (behind u h (earlier u h a p) (same ∙ ap (parentAt labels) b)))
         pick (no a) (no b) =
             rw (offset-stays start u a, offset-stays start w b) (now .blocks .apart u w h k (earlier u h a p) (earlier w k b q) same other)
 
     -- ---- A root
 
-    module _ {parent : ℕ} (read : parent ≡ parentAt s v) (none : parent ≡ noParent) where
-      root : parentAt s v ≡ noParent
+    module _ {parent : ℕ} (read : parent ≡ parentAt labels v) (none : parent ≡ noParent) where
+      root : parentAt labels v ≡ noParent
       root = sym read ∙ none
 
       -- the total stays within the count
@@ -157,7 +157,7 @@ module _
       root-total =
           omega (arith, own-rest, place-in-sum (now .rests .rests) v (omega (arith, now .rests .places)), now .rests .all, fit .few-junctions)
 
-      pub merged-root : Merged s sizes (set offsets v total) (total + getD sizes v 0) (depthOf s v) (v + 1)
+      pub merged-root : Merged labels sizes (set offsets v total) (total + getD sizes v 0) (depthOf labels v) (v + 1)
       merged-root =
           record {
             blocks =
@@ -182,9 +182,9 @@ module _
         where
           of-root :
               (w : ℕ) →
-              w < junctionsOf s →
+              w < junctionsOf labels →
               Done w →
-              parentAt s w ≡ noParent →
+              parentAt labels w ≡ noParent →
               Dec (w ≡ v) →
               getD (set offsets v total) w 0 + getD sizes w 0 ≤ total + getD sizes v 0
           of-root w h done is (yes same) = rw (same, offset-put total) (omega arith)
@@ -193,24 +193,24 @@ module _
 
           of-child :
               (w : ℕ) →
-              w < junctionsOf s →
+              w < junctionsOf labels →
               Done w →
-              (parentAt s w ≡ noParent → ⊥) →
+              (parentAt labels w ≡ noParent → ⊥) →
               Dec (w ≡ v) →
-              (1 ≤ getD (set offsets v total) w 0) × (getD (set offsets v total) w 0 + getD sizes w 0 ≤ getD sizes (parentAt s w) 0)
+              (1 ≤ getD (set offsets v total) w 0) × (getD (set offsets v total) w 0 + getD sizes w 0 ≤ getD sizes (parentAt labels w) 0)
           of-child w h done other (yes same) = absurd (other (rw same root))
           of-child w h done other (no apart) =
               rw (offset-stays total w apart) (now .blocks .of-child w h (earlier w h apart done) other)
 
-          rest : (w : ℕ) → w < junctionsOf s → (Done w → ⊥) → Dec (w ≡ v) → getD (set (now .rests .rests) v 0) w 0 ≡ getD sizes w 0
+          rest : (w : ℕ) → w < junctionsOf labels → (Done w → ⊥) → Dec (w ≡ v) → getD (set (now .rests .rests) v 0) w 0 ≡ getD sizes w 0
           rest w h left (yes same) = absurd (left (rw same (omega arith)))
           rest w h left (no other) =
               getD-set-other (now .rests .rests) v w 0 0 other ∙ now .rests .rest w h (λ done. left (later w done))
 
     -- ---- A child
 
-    module _ {parent p : ℕ} (read : parent ≡ parentAt s v) (other : parent ≡ noParent → ⊥) (widened : p ≡ parent) where
-      is : p ≡ parentAt s v
+    module _ {parent p : ℕ} (read : parent ≡ parentAt labels v) (other : parent ≡ noParent → ⊥) (widened : p ≡ parent) where
+      is : p ≡ parentAt labels v
       is = widened ∙ read
 
       child : p ≡ noParent → ⊥
@@ -224,14 +224,14 @@ module _
       abbrev whole : ℕ
       whole = room + getD sizes v 0
 
-      up : Climbed s v 1 p
+      up : Climbed labels v 1 p
       up = rw is (one-up fit v below (λ root. child (is ∙ root)))
 
       pub parent-inside : p < 1024
       parent-inside = omega (arith, up .on-map, fit .few-junctions)
 
       parent-other : v ≡ p → ⊥
-      parent-other e = omega (arith, up .depth, ap (depthOf s) e)
+      parent-other e = omega (arith, up .depth, ap (depthOf labels) e)
 
       -- the parent is not done, neither before nor after
       parent-open : Done p → ⊥
@@ -246,7 +246,7 @@ module _
       size-put : (x : ℕ) → getD (set sizes p x) p 0 ≡ x
       size-put x = getD-set-same sizes p x 0 (omega (arith, parent-inside, now .blocks .size-places))
 
-      done-keeps : (x w : ℕ) → w < junctionsOf s → Done w → getD (set sizes p x) w 0 ≡ getD sizes w 0
+      done-keeps : (x w : ℕ) → w < junctionsOf labels → Done w → getD (set sizes p x) w 0 ≡ getD sizes w 0
       done-keeps x w h done = size-stays x w (λ e. parent-open (rw e at done))
 
       -- no block loses a place
@@ -278,7 +278,7 @@ module _
                 (omega (arith, now .rests .places, length-set (now .rests .rests) p whole)),
           )
 
-      moved-places : length moved ≡ junctionsOf s
+      moved-places : length moved ≡ junctionsOf labels
       moved-places =
           length-set (set (now .rests .rests) p whole) v 0 ∙ (length-set (now .rests .rests) p whole ∙ now .rests .places)
 
@@ -299,7 +299,7 @@ module _
             fit .few-junctions,
           )
 
-      pub merged-child : Merged s (set sizes p whole) (set offsets v room) total (depthOf s v) (v + 1)
+      pub merged-child : Merged labels (set sizes p whole) (set offsets v room) total (depthOf labels v) (v + 1)
       merged-child =
           record {
             blocks =
@@ -326,15 +326,15 @@ module _
                 };
           }
         where
-          small : (w : ℕ) → w < junctionsOf s → Dec (w ≡ p) → getD (set sizes p whole) w 0 ≤ 1024
+          small : (w : ℕ) → w < junctionsOf labels → Dec (w ≡ p) → getD (set sizes p whole) w 0 ≤ 1024
           small w h (yes is-p) = rw (is-p, size-put whole) child-total
           small w h (no away) = rw (size-stays whole w away) (now .blocks .small w h)
 
           of-root :
               (w : ℕ) →
-              w < junctionsOf s →
+              w < junctionsOf labels →
               Done w →
-              parentAt s w ≡ noParent →
+              parentAt labels w ≡ noParent →
               Dec (w ≡ v) →
               getD (set offsets v room) w 0 + getD (set sizes p whole) w 0 ≤ total
           of-root w h done root (yes same) = absurd (child (is ∙ (rw same at root)))
@@ -343,13 +343,13 @@ module _
 
           of-child :
               (w : ℕ) →
-              w < junctionsOf s →
+              w < junctionsOf labels →
               Done w →
-              (parentAt s w ≡ noParent → ⊥) →
+              (parentAt labels w ≡ noParent → ⊥) →
               Dec (w ≡ v) →
               (1 ≤ getD (set offsets v room) w 0)
               × (getD (set offsets v room) w 0 + getD (set sizes p whole) w 0
-              ≤ getD (set sizes p whole) (parentAt s w) 0)
+              ≤ getD (set sizes p whole) (parentAt labels w) 0)
           of-child w h done other (yes same) =
               rw
               (same, ← is, offset-put room, size-stays whole v parent-other, size-put whole)
@@ -358,9 +358,9 @@ module _
               let before = now .blocks .of-child w h (earlier w h apart done) other in
               rw
               (offset-stays room w apart, done-keeps whole w h done)
-              (before .0, omega (arith, before .1, grown (parentAt s w)))
+              (before .0, omega (arith, before .1, grown (parentAt labels w)))
 
-          rest : (w : ℕ) → w < junctionsOf s → (Done w → ⊥) → Dec (w ≡ v) → Dec (w ≡ p) → getD moved w 0 ≡ getD (set sizes p whole) w 0
+          rest : (w : ℕ) → w < junctionsOf labels → (Done w → ⊥) → Dec (w ≡ v) → Dec (w ≡ p) → getD moved w 0 ≡ getD (set sizes p whole) w 0
           rest w h left (yes same) is-p = absurd (left (rw same (omega arith)))
           rest w h left (no other) (yes is-p) = rw (is-p, size-put whole) parent-moved
           rest w h left (no other) (no away) =
@@ -371,31 +371,31 @@ module _
 -- ---- A level
 
 -- two names of one depth
-pub merged-as : {s sizes offsets : List ℕ} {total d e v : ℕ} → Merged s sizes offsets total d v → d ≡ e → Merged s sizes offsets total e v
+pub merged-as : {labels sizes offsets : List ℕ} {total d e v : ℕ} → Merged labels sizes offsets total d v → d ≡ e → Merged labels sizes offsets total e v
 merged-as now same = rw same at now
 
-module _ {s sizes offsets : List ℕ} {total d : ℕ} (fit : ParentsFit s) where
+module _ {labels sizes offsets : List ℕ} {total d : ℕ} (fit : ParentsFit labels) where
   -- it goes on at the next junction of the same depth, begins where the deeper one ended, and ends behind the last
-  pub merged-next : {v r : ℕ} → Merged s sizes offsets total d v → First s d v r → Merged s sizes offsets total d r
+  pub merged-next : {v r : ℕ} → Merged labels sizes offsets total d v → First labels d v r → Merged labels sizes offsets total d r
   merged-next {v} {r} now first =
-      merged-same (λ w h done. pick w h done (decLt (1024 * d + w) (1024 * depthOf s w + v))) (λ w h done. omega (arith, first .from-on)) now
+      merged-same (λ w h done. pick w h done (decLt (1024 * d + w) (1024 * depthOf labels w + v))) (λ w h done. omega (arith, first .from-on)) now
     where
-      pick : (w : ℕ) → w < junctionsOf s → Deeper s d r w → Dec (Deeper s d v w) → Deeper s d v w
+      pick : (w : ℕ) → w < junctionsOf labels → Deeper labels d r w → Dec (Deeper labels d v w) → Deeper labels d v w
       pick w h done (yes before) = before
       pick w h done (no behind) =
-          let level : depthOf s w ≡ d = omega (arith, first .few, fit .few-junctions) in
+          let level : depthOf labels w ≡ d = omega (arith, first .few, fit .few-junctions) in
           absurd (first .skips w (omega arith) (omega arith) h level)
 
-  pub merged-begin : {r : ℕ} → Merged s sizes offsets total (d + 1) 1024 → First s d 0 r → Merged s sizes offsets total d r
+  pub merged-begin : {r : ℕ} → Merged labels sizes offsets total (d + 1) 1024 → First labels d 0 r → Merged labels sizes offsets total d r
   merged-begin now first = merged-next (merged-same (λ w h done. omega arith) (λ w h done. omega arith) now) first
 
-  pub merged-end : {v : ℕ} → Merged s sizes offsets total d v → junctionsOf s ≤ v → v ≤ 1024 → Merged s sizes offsets total d 1024
+  pub merged-end : {v : ℕ} → Merged labels sizes offsets total d v → junctionsOf labels ≤ v → v ≤ 1024 → Merged labels sizes offsets total d 1024
   merged-end now past few = merged-same (λ w h done. omega arith) (λ w h done. omega arith) now
 
 -- ---- All
 
 -- with level 0 merged all are, and the roots fill no more than there are junctions
-pub merged-all : {s sizes offsets : List ℕ} {total level : ℕ} → Merged s sizes offsets total level 1024 → level ≤ 0 → AllMerged s sizes offsets
+pub merged-all : {labels sizes offsets : List ℕ} {total level : ℕ} → Merged labels sizes offsets total level 1024 → level ≤ 0 → AllMerged labels sizes offsets
 merged-all now h =
     let blocks = merged-as {e = 0} now (omega arith) .blocks in
     record {
@@ -409,14 +409,14 @@ merged-all now h =
     }
 
 -- so the offsets are small
-pub offsets-small : {s sizes offsets : List ℕ} → ParentsFit s → AllMerged s sizes offsets → OffsetsSmall s offsets
-offsets-small {s} {offsets = offsets} fit all = record { places = all .offset-places; small = λ w h. pick w h (root? s w) }
+pub offsets-small : {labels sizes offsets : List ℕ} → ParentsFit labels → AllMerged labels sizes offsets → OffsetsSmall labels offsets
+offsets-small {labels} {offsets = offsets} fit all = record { places = all .offset-places; small = λ w h. pick w h (root? labels w) }
   where
-    pick : (w : ℕ) → w < junctionsOf s → Dec (IsRoot s w) → getD offsets w 0 ≤ 1024
+    pick : (w : ℕ) → w < junctionsOf labels → Dec (IsRoot labels w) → getD offsets w 0 ≤ 1024
     pick w h (yes root) = omega (arith, all .of-root w h (omega (arith, fit .few-junctions)) root, fit .few-junctions)
     pick w h (no child) =
         omega (
           arith,
           all .of-child w h (omega (arith, fit .few-junctions)) child,
-          all .small (parentAt s w) (one-up fit w h child .on-map),
+          all .small (parentAt labels w) (one-up fit w h child .on-map),
         )

@@ -26,15 +26,15 @@ record Inside (spots sizes : List ℕ) (u v : ℕ) : Type 0 where
   within : getD spots v 0 + getD sizes v 0 ≤ getD spots u 0 + getD sizes u 0
 
 -- Every block lies in its parent's, a root's below n, and those of one parent are apart
-record Nested (s spots sizes : List ℕ) : Type 0 where
-  itself : (v : ℕ) → v < junctionsOf s → 1 ≤ getD sizes v 0
-  of-root : (v : ℕ) → v < junctionsOf s → IsRoot s v → getD spots v 0 + getD sizes v 0 ≤ junctionsOf s
-  of-child : (v : ℕ) → v < junctionsOf s → (IsRoot s v → ⊥) → Inside spots sizes (parentAt s v) v
-  apart : (u v : ℕ) → u < junctionsOf s → v < junctionsOf s → parentAt s u ≡ parentAt s v → (u ≡ v → ⊥) → Apart spots sizes u v
+record Nested (labels spots sizes : List ℕ) : Type 0 where
+  itself : (v : ℕ) → v < junctionsOf labels → 1 ≤ getD sizes v 0
+  of-root : (v : ℕ) → v < junctionsOf labels → IsRoot labels v → getD spots v 0 + getD sizes v 0 ≤ junctionsOf labels
+  of-child : (v : ℕ) → v < junctionsOf labels → (IsRoot labels v → ⊥) → Inside spots sizes (parentAt labels v) v
+  apart : (u v : ℕ) → u < junctionsOf labels → v < junctionsOf labels → parentAt labels u ≡ parentAt labels v → (u ≡ v → ⊥) → Apart spots sizes u v
 
 -- blocks at the spots that the offsets lead to nest
-nested : {s spots sizes offsets : List ℕ} → ParentsFit s → AllMerged s sizes offsets → Placed s offsets spots (junctionsOf s) 0 → Nested s spots sizes
-nested {s} {spots} {sizes} {offsets} fit merged placed =
+nested : {labels spots sizes offsets : List ℕ} → ParentsFit labels → AllMerged labels sizes offsets → Placed labels offsets spots (junctionsOf labels) 0 → Nested labels spots sizes
+nested {labels} {spots} {sizes} {offsets} fit merged placed =
     record {
       itself = merged .itself;
       of-root = λ v h root. omega (arith, placed .of-root v h (high v h) root, merged .of-root v h (deep v h) root);
@@ -42,14 +42,14 @@ nested {s} {spots} {sizes} {offsets} fit merged placed =
         behind = omega (arith, placed .of-child v h (high v h) child, merged .of-child v h (deep v h) child);
         within = omega (arith, placed .of-child v h (high v h) child, merged .of-child v h (deep v h) child);
       };
-      apart = λ u v h k same other. pick u v h k same other (root? s u) (merged .apart u v h k (deep u h) (deep v k) same other);
+      apart = λ u v h k same other. pick u v h k same other (root? labels u) (merged .apart u v h k (deep u h) (deep v k) same other);
     }
   where
     -- every junction is merged and placed
-    deep : (v : ℕ) → v < junctionsOf s → 1024 * 0 + v < 1024 * depthOf s v + 1024
+    deep : (v : ℕ) → v < junctionsOf labels → 1024 * 0 + v < 1024 * depthOf labels v + 1024
     deep v h = omega (arith, fit .few-junctions)
 
-    high : (v : ℕ) → v < junctionsOf s → 1024 * depthOf s v + v < 1024 * junctionsOf s + 0
+    high : (v : ℕ) → v < junctionsOf labels → 1024 * depthOf labels v + v < 1024 * junctionsOf labels + 0
     high v h = omega (arith, fit .few-junctions, fit .ends v h)
 
     -- siblings start behind the same place
@@ -63,66 +63,66 @@ nested {s} {spots} {sizes} {offsets} fit merged placed =
 
     pick :
         (u v : ℕ) →
-        u < junctionsOf s →
-        v < junctionsOf s →
-        parentAt s u ≡ parentAt s v →
+        u < junctionsOf labels →
+        v < junctionsOf labels →
+        parentAt labels u ≡ parentAt labels v →
         (u ≡ v → ⊥) →
-        Dec (IsRoot s u) →
+        Dec (IsRoot labels u) →
         Apart offsets sizes u v →
         Apart spots sizes u v
     pick u v h k same other (yes root) =
         moved 0 u v (omega (arith, placed .of-root u h (high u h) root)) (omega (arith, placed .of-root v k (high v k) (sym same ∙ root)))
     pick u v h k same other (no child) =
         moved
-        (getD spots (parentAt s u) 0)
+        (getD spots (parentAt labels u) 0)
         u
         v
         (placed .of-child u h (high u h) child)
         (rw same (placed .of-child v k (high v k) (λ root. child (same ∙ root))))
 
-module _ {s spots sizes : List ℕ} (fit : ParentsFit s) (nest : Nested s spots sizes) where
+module _ {labels spots sizes : List ℕ} (fit : ParentsFit labels) (nest : Nested labels spots sizes) where
   -- an ancestor's block holds the blocks below it
-  above-inside : {u v : ℕ} → Above (parentsOf s) u v → Inside spots sizes u v
+  above-inside : {u v : ℕ} → Above (parentsOf labels) u v → Inside spots sizes u v
   above-inside {u} (parent-is {v} e) =
-      let h = parents-some s e in rw (h .parent) at (nest .of-child v (h .on-map) (h .no-root))
+      let h = parents-some labels e in rw (h .parent) at (nest .of-child v (h .on-map) (h .no-root))
   above-inside {u} (parent-has {v} {w} e above) =
-      let h = parents-some s e in
+      let h = parents-some labels e in
       let near : Inside spots sizes w v = rw (h .parent) at (nest .of-child v (h .on-map) (h .no-root)) in
       let far = above-inside above in
       record { behind = omega (arith, near .behind, far .behind); within = omega (arith, near .within, far .within) }
 
   -- ---- Blocks of one depth are apart
 
-  level-apart : (d u v : ℕ) → u < junctionsOf s → v < junctionsOf s → depthOf s u ≡ d → depthOf s v ≡ d → (u ≡ v → ⊥) → Apart spots sizes u v
+  level-apart : (d u v : ℕ) → u < junctionsOf labels → v < junctionsOf labels → depthOf labels u ≡ d → depthOf labels v ≡ d → (u ≡ v → ⊥) → Apart spots sizes u v
   level-apart zero u v h k e f other =
-      nest .apart u v h k (depth-none s u e (fit .ends u h) ∙ sym (depth-none s v f (fit .ends v k))) other
+      nest .apart u v h k (depth-none labels u e (fit .ends u h) ∙ sym (depth-none labels v f (fit .ends v k))) other
   level-apart (suc d) u v h k e f other =
       pick
-      (ℕ-discrete (parentAt s u) (parentAt s v))
+      (ℕ-discrete (parentAt labels u) (parentAt labels v))
       (level-apart
       d
-      (parentAt s u)
-      (parentAt s v)
+      (parentAt labels u)
+      (parentAt labels v)
       (up-u .on-map)
       (up-v .on-map)
       (omega (arith, up-u .depth))
       (omega (arith, up-v .depth)))
     where
-      u-child : IsRoot s u → ⊥
-      u-child = depth-some s u (omega arith)
+      u-child : IsRoot labels u → ⊥
+      u-child = depth-some labels u (omega arith)
 
-      v-child : IsRoot s v → ⊥
-      v-child = depth-some s v (omega arith)
+      v-child : IsRoot labels v → ⊥
+      v-child = depth-some labels v (omega arith)
 
-      up-u : Climbed s u 1 (parentAt s u)
+      up-u : Climbed labels u 1 (parentAt labels u)
       up-u = one-up fit u h u-child
 
-      up-v : Climbed s v 1 (parentAt s v)
+      up-v : Climbed labels v 1 (parentAt labels v)
       up-v = one-up fit v k v-child
 
       pick :
-          Dec (parentAt s u ≡ parentAt s v) →
-          ((parentAt s u ≡ parentAt s v → ⊥) → Apart spots sizes (parentAt s u) (parentAt s v)) →
+          Dec (parentAt labels u ≡ parentAt labels v) →
+          ((parentAt labels u ≡ parentAt labels v → ⊥) → Apart spots sizes (parentAt labels u) (parentAt labels v)) →
           Apart spots sizes u v
       pick (yes same) further = nest .apart u v h k same other
       pick (no away) further =
@@ -140,45 +140,45 @@ module _ {s spots sizes : List ℕ} (fit : ParentsFit s) (nest : Nested s spots 
   Holds u x = (getD spots u 0 ≤ x) × (x < getD spots u 0 + getD sizes u 0)
 
   -- an ancestor's block holds the spot of v
-  in-block : (u v : ℕ) → v < junctionsOf s → Ancestor (parentsOf s) u v → Holds u (getD spots v 0)
+  in-block : (u v : ℕ) → v < junctionsOf labels → Ancestor (parentsOf labels) u v → Holds u (getD spots v 0)
   in-block u v h (inl e) = rw e (omega arith, omega (arith, nest .itself v h))
   in-block u v h (inr above) =
       let z = above-inside above in (omega (arith, z .behind), omega (arith, z .within, nest .itself v h))
 
   -- of one depth only one block holds it
-  one-holds : (u v x : ℕ) → u < junctionsOf s → v < junctionsOf s → depthOf s u ≡ depthOf s v → Holds u x → Holds v x → u ≡ v
+  one-holds : (u v x : ℕ) → u < junctionsOf labels → v < junctionsOf labels → depthOf labels u ≡ depthOf labels v → Holds u x → Holds v x → u ≡ v
   one-holds u v x h k level p q = pick (ℕ-discrete u v)
     where
       pick : Dec (u ≡ v) → u ≡ v
       pick (yes same) = same
       pick (no other) =
-          absurd (⊎-elim (λ z. omega arith) (λ z. omega arith) (level-apart (depthOf s v) u v h k level refl other))
+          absurd (⊎-elim (λ z. omega arith) (λ z. omega arith) (level-apart (depthOf labels v) u v h k level refl other))
 
   -- so the one that holds the spot of v is an ancestor: it is no deeper, as what holds the spot there would start behind v
-  block-below : (u v : ℕ) → u < junctionsOf s → v < junctionsOf s → Holds u (getD spots v 0) → Ancestor (parentsOf s) u v
-  block-below u v h k held = pick (decLt (depthOf s v) (depthOf s u))
+  block-below : (u v : ℕ) → u < junctionsOf labels → v < junctionsOf labels → Holds u (getD spots v 0) → Ancestor (parentsOf labels) u v
+  block-below u v h k held = pick (decLt (depthOf labels v) (depthOf labels u))
     where
-      pick : Dec (depthOf s v < depthOf s u) → Ancestor (parentsOf s) u v
+      pick : Dec (depthOf labels v < depthOf labels u) → Ancestor (parentsOf labels) u v
       pick (no level) =
-          let above = ancestor-is-up fit (depthOf s v - depthOf s u) v k (omega arith) in
-          let at = climbed fit (depthOf s v - depthOf s u) v k (omega arith) in
+          let above = ancestor-is-up fit (depthOf labels v - depthOf labels u) v k (omega arith) in
+          let at = climbed fit (depthOf labels v - depthOf labels u) v k (omega arith) in
           rw
           (one-holds
-          (ancestorOf s v (depthOf s v - depthOf s u))
+          (ancestorOf labels v (depthOf labels v - depthOf labels u))
           u
           (getD spots v 0)
           (at .on-map)
           h
           (omega (arith, at .depth))
-          (in-block (ancestorOf s v (depthOf s v - depthOf s u)) v k above)
+          (in-block (ancestorOf labels v (depthOf labels v - depthOf labels u)) v k above)
           held)
           at above
       pick (yes deeper) =
-          let inside = above-inside (above-is-up fit (depthOf s u - depthOf s v) u h (omega arith) (omega arith)) in
-          let at = climbed fit (depthOf s u - depthOf s v) u h (omega arith) in
+          let inside = above-inside (above-is-up fit (depthOf labels u - depthOf labels v) u h (omega arith) (omega arith)) in
+          let at = climbed fit (depthOf labels u - depthOf labels v) u h (omega arith) in
           let same =
           one-holds
-          (ancestorOf s u (depthOf s u - depthOf s v))
+          (ancestorOf labels u (depthOf labels u - depthOf labels v))
           v
           (getD spots v 0)
           (at .on-map)
@@ -191,19 +191,19 @@ module _ {s spots sizes : List ℕ} (fit : ParentsFit s) (nest : Nested s spots 
   -- ---- The numbering
 
   -- every block lies below n
-  block-inside : (d v : ℕ) → v < junctionsOf s → depthOf s v ≡ d → getD spots v 0 + getD sizes v 0 ≤ junctionsOf s
-  block-inside zero v h e = nest .of-root v h (depth-none s v e (fit .ends v h))
+  block-inside : (d v : ℕ) → v < junctionsOf labels → depthOf labels v ≡ d → getD spots v 0 + getD sizes v 0 ≤ junctionsOf labels
+  block-inside zero v h e = nest .of-root v h (depth-none labels v e (fit .ends v h))
   block-inside (suc d) v h e =
-      let child = depth-some s v (omega arith) in
+      let child = depth-some labels v (omega arith) in
       let up = one-up fit v h child in
-      omega (arith, nest .of-child v h child .within, block-inside d (parentAt s v) (up .on-map) (omega (arith, up .depth)))
+      omega (arith, nest .of-child v h child .within, block-inside d (parentAt labels v) (up .on-map) (omega (arith, up .depth)))
 
   -- no two junctions have one spot, as each block would hold the other's
-  spread : Spread (junctionsOf s) spots
+  spread : Spread (junctionsOf labels) spots
   spread =
       record {
         few = fit .few-junctions;
-        below = λ v h. omega (arith, block-inside (depthOf s v) v h refl, nest .itself v h);
+        below = λ v h. omega (arith, block-inside (depthOf labels v) v h refl, nest .itself v h);
         once =
             λ u v h k e.
             ⊎-elim
@@ -215,9 +215,9 @@ module _ {s spots sizes : List ℕ} (fit : ParentsFit s) (nest : Nested s spots 
   -- with the junctions listed by their spots and all copied to the table, it is whole
   numbered :
       {order before tables : List ℕ} →
-      Listed spots order (junctionsOf s) →
-      CopiedBelow order spots sizes before tables (junctionsOf s) →
-      Numbered s tables
+      Listed spots order (junctionsOf labels) →
+      CopiedBelow order spots sizes before tables (junctionsOf labels) →
+      Numbered labels tables
   numbered {order} {before} {tables} listed copied =
       record {
         places = copied .places;
@@ -225,7 +225,7 @@ module _ {s spots sizes : List ℕ} (fit : ParentsFit s) (nest : Nested s spots 
         spot-below = λ v h. rw (copied .spot v h) (spread .below v h);
         on-map = λ i h. rw (copied .junction i h) (listed-on-map i h);
         spot-of = λ i h. rw (copied .junction i h, copied .spot (getD order i 0) (listed-on-map i h)) (let z = hit i h in rw (stands z) (z .is));
-        block-inside = λ v h. rw (copied .spot v h, copied .size v h) (block-inside (depthOf s v) v h refl);
+        block-inside = λ v h. rw (copied .spot v h, copied .size v h) (block-inside (depthOf labels v) v h refl);
         in-block = λ u v h k above. omega (arith, copied .spot u h, copied .spot v k, copied .size u h, in-block u v k above);
         block-below =
             λ u v h k from to.
@@ -234,23 +234,23 @@ module _ {s spots sizes : List ℕ} (fit : ParentsFit s) (nest : Nested s spots 
       }
     where
       -- every spot is some junction's
-      hit : (i : ℕ) → i < junctionsOf s → Hit (λ v. getD spots v 0) (junctionsOf s) i
-      hit = onto (λ v. getD spots v 0) (junctionsOf s) (spread .below) (spread .once)
+      hit : (i : ℕ) → i < junctionsOf labels → Hit (λ v. getD spots v 0) (junctionsOf labels) i
+      hit = onto (λ v. getD spots v 0) (junctionsOf labels) (spread .below) (spread .once)
 
-      stands : {i : ℕ} (z : Hit (λ v. getD spots v 0) (junctionsOf s) i) → getD order i 0 ≡ z .at
+      stands : {i : ℕ} (z : Hit (λ v. getD spots v 0) (junctionsOf labels) i) → getD order i 0 ≡ z .at
       stands z = rw (← z .is) (listed .at-spot (z .at) (z .below))
 
-      listed-on-map : (i : ℕ) → i < junctionsOf s → getD order i 0 < junctionsOf s
+      listed-on-map : (i : ℕ) → i < junctionsOf labels → getD order i 0 < junctionsOf labels
       listed-on-map i h = let z = hit i h in rw (stands z) (z .below)
 
 -- what merging and placing leave
 module _
-    {s spots sizes offsets : List ℕ} {n : ℕ} (fit : ParentsFit s) (merged : AllMerged s sizes offsets)
-    (placed : Placed s offsets spots (junctionsOf s) 0) (size : n ≡ junctionsOf s)
+    {labels spots sizes offsets : List ℕ} {n : ℕ} (fit : ParentsFit labels) (merged : AllMerged labels sizes offsets)
+    (placed : Placed labels offsets spots (junctionsOf labels) 0) (size : n ≡ junctionsOf labels)
   where
     pub placed-spread : Spread n spots
     placed-spread = rw size (spread fit (nested fit merged placed))
 
     pub listed-numbered :
-        {order before tables : List ℕ} → Listed spots order n → CopiedBelow order spots sizes before tables n → Numbered s tables
+        {order before tables : List ℕ} → Listed spots order n → CopiedBelow order spots sizes before tables n → Numbered labels tables
     listed-numbered listed copied = numbered fit (nested fit merged placed) (rw size at listed) (rw size at copied)

@@ -20,7 +20,7 @@ use Rattle.preorder.specs.working.Blocks.{OffsetsSmall, Placed, Spread, 
 
 -- ---- No junction yet
 
-pub placed-none : {s offsets spots : List ℕ} → length spots ≡ 1024 → Placed s offsets spots 0 0
+pub placed-none : {labels offsets spots : List ℕ} → length spots ≡ 1024 → Placed labels offsets spots 0 0
 placed-none places =
     record {
       places = places;
@@ -32,20 +32,20 @@ placed-none places =
 -- ---- One junction more
 
 module _
-    {s offsets spots : List ℕ} {v : ℕ} (fit : ParentsFit s) (below : v < junctionsOf s) (few : OffsetsSmall s offsets)
-    (now : Placed s offsets spots (depthOf s v) v)
+    {labels offsets spots : List ℕ} {v : ℕ} (fit : ParentsFit labels) (below : v < junctionsOf labels) (few : OffsetsSmall labels offsets)
+    (now : Placed labels offsets spots (depthOf labels v) v)
   where
     -- what is done then was done before, or is v
-    earlier : (w : ℕ) → w < junctionsOf s → (w ≡ v → ⊥) → Higher s (depthOf s v) (v + 1) w → Higher s (depthOf s v) v w
+    earlier : (w : ℕ) → w < junctionsOf labels → (w ≡ v → ⊥) → Higher labels (depthOf labels v) (v + 1) w → Higher labels (depthOf labels v) v w
     earlier w h other done = omega (arith, fit .few-junctions)
 
     -- the parent of what is done is higher, so it is not v
-    module _ (w : ℕ) (h : w < junctionsOf s) (done : Higher s (depthOf s v) (v + 1) w) (child : parentAt s w ≡ noParent → ⊥) where
-      up : Climbed s w 1 (parentAt s w)
+    module _ (w : ℕ) (h : w < junctionsOf labels) (done : Higher labels (depthOf labels v) (v + 1) w) (child : parentAt labels w ≡ noParent → ⊥) where
+      up : Climbed labels w 1 (parentAt labels w)
       up = one-up fit w h child
 
-      parent-other : parentAt s w ≡ v → ⊥
-      parent-other e = omega (arith, up .depth, ap (depthOf s) e, fit .few-junctions)
+      parent-other : parentAt labels w ≡ v → ⊥
+      parent-other e = omega (arith, up .depth, ap (depthOf labels) e, fit .few-junctions)
 
     module _ (x : ℕ) where
       put : getD (set spots v x) v 0 ≡ x
@@ -56,23 +56,23 @@ module _
 
       -- with the spot that v is to have, one more is placed
       placed-more :
-          x ≤ 1024 * (depthOf s v + 1) →
-          (parentAt s v ≡ noParent → x ≡ getD offsets v 0) →
-          ((parentAt s v ≡ noParent → ⊥) → x ≡ getD spots (parentAt s v) 0 + getD offsets v 0) →
-          Placed s offsets (set spots v x) (depthOf s v) (v + 1)
+          x ≤ 1024 * (depthOf labels v + 1) →
+          (parentAt labels v ≡ noParent → x ≡ getD offsets v 0) →
+          ((parentAt labels v ≡ noParent → ⊥) → x ≡ getD spots (parentAt labels v) 0 + getD offsets v 0) →
+          Placed labels offsets (set spots v x) (depthOf labels v) (v + 1)
       placed-more bound as-root as-child =
           record {
             places = length-set spots v x ∙ now .places;
             of-root = λ w h done root. of-root w h done root (ℕ-discrete w v);
-            of-child = λ w h done child. rw (stays (parentAt s w) (parent-other w h done child)) (of-child w h done child (ℕ-discrete w v));
+            of-child = λ w h done child. rw (stays (parentAt labels w) (parent-other w h done child)) (of-child w h done child (ℕ-discrete w v));
             small = λ w h done. small w h done (ℕ-discrete w v);
           }
         where
           of-root :
               (w : ℕ) →
-              w < junctionsOf s →
-              Higher s (depthOf s v) (v + 1) w →
-              parentAt s w ≡ noParent →
+              w < junctionsOf labels →
+              Higher labels (depthOf labels v) (v + 1) w →
+              parentAt labels w ≡ noParent →
               Dec (w ≡ v) →
               getD (set spots v x) w 0 ≡ getD offsets w 0
           of-root w h done root (yes same) = rw (same, put) (as-root (rw same at root))
@@ -80,57 +80,57 @@ module _
 
           of-child :
               (w : ℕ) →
-              w < junctionsOf s →
-              Higher s (depthOf s v) (v + 1) w →
-              (parentAt s w ≡ noParent → ⊥) →
+              w < junctionsOf labels →
+              Higher labels (depthOf labels v) (v + 1) w →
+              (parentAt labels w ≡ noParent → ⊥) →
               Dec (w ≡ v) →
-              getD (set spots v x) w 0 ≡ getD spots (parentAt s w) 0 + getD offsets w 0
+              getD (set spots v x) w 0 ≡ getD spots (parentAt labels w) 0 + getD offsets w 0
           of-child w h done child (yes same) = rw (same, put) (as-child (rw same at child))
           of-child w h done child (no other) = stays w other ∙ now .of-child w h (earlier w h other done) child
 
-          small : (w : ℕ) → w < junctionsOf s → Higher s (depthOf s v) (v + 1) w → Dec (w ≡ v) → getD (set spots v x) w 0 ≤ 1024 * (depthOf s w + 1)
+          small : (w : ℕ) → w < junctionsOf labels → Higher labels (depthOf labels v) (v + 1) w → Dec (w ≡ v) → getD (set spots v x) w 0 ≤ 1024 * (depthOf labels w + 1)
           small w h done (yes same) = rw (same, put) bound
           small w h done (no other) = rw (stays w other) (now .small w h (earlier w h other done))
 
     -- a root stands at its offset
     pub placed-root :
-        {parent : ℕ} → parent ≡ parentAt s v → parent ≡ noParent → Placed s offsets (set spots v (getD offsets v 0)) (depthOf s v) (v + 1)
+        {parent : ℕ} → parent ≡ parentAt labels v → parent ≡ noParent → Placed labels offsets (set spots v (getD offsets v 0)) (depthOf labels v) (v + 1)
     placed-root read none =
         placed-more (getD offsets v 0) (omega (arith, few .small v below)) (λ is. refl) (λ child. absurd (child (sym read ∙ none)))
 
     -- a child behind its parent
-    module _ {parent p : ℕ} (read : parent ≡ parentAt s v) (other : parent ≡ noParent → ⊥) (widened : p ≡ parent) where
-      is : p ≡ parentAt s v
+    module _ {parent p : ℕ} (read : parent ≡ parentAt labels v) (other : parent ≡ noParent → ⊥) (widened : p ≡ parent) where
+      is : p ≡ parentAt labels v
       is = widened ∙ read
 
       child : p ≡ noParent → ⊥
       child root = other (sym widened ∙ root)
 
-      above : Climbed s v 1 p
+      above : Climbed labels v 1 p
       above = rw is (one-up fit v below (λ root. child (is ∙ root)))
 
       pub parent-inside : p < 1024
       parent-inside = omega (arith, above .on-map, fit .few-junctions)
 
-      pub spot-small : getD spots p 0 + getD offsets v 0 ≤ 1024 * (depthOf s v + 1)
+      pub spot-small : getD spots p 0 + getD offsets v 0 ≤ 1024 * (depthOf labels v + 1)
       spot-small =
-          let higher : Higher s (depthOf s v) v p = omega (arith, above .depth, parent-inside) in
+          let higher : Higher labels (depthOf labels v) v p = omega (arith, above .depth, parent-inside) in
           omega (arith, above .depth, now .small p (above .on-map) higher, few .small v below)
 
-      pub placed-child : Placed s offsets (set spots v (getD spots p 0 + getD offsets v 0)) (depthOf s v) (v + 1)
+      pub placed-child : Placed labels offsets (set spots v (getD spots p 0 + getD offsets v 0)) (depthOf labels v) (v + 1)
       placed-child =
           placed-more (getD spots p 0 + getD offsets v 0) spot-small (λ root. absurd (child (is ∙ root))) (λ away. rw is)
 
 -- ---- A level
 
 -- two names of one depth
-pub placed-as : {s offsets spots : List ℕ} {d e v : ℕ} → Placed s offsets spots d v → d ≡ e → Placed s offsets spots e v
+pub placed-as : {labels offsets spots : List ℕ} {d e v : ℕ} → Placed labels offsets spots d v → d ≡ e → Placed labels offsets spots e v
 placed-as now same = rw same at now
 
-module _ {s offsets spots : List ℕ} where
+module _ {labels offsets spots : List ℕ} where
   -- no more are placed
   placed-fewer :
-      {d v e x : ℕ} → ((w : ℕ) → w < junctionsOf s → Higher s e x w → Higher s d v w) → Placed s offsets spots d v → Placed s offsets spots e x
+      {d v e x : ℕ} → ((w : ℕ) → w < junctionsOf labels → Higher labels e x w → Higher labels d v w) → Placed labels offsets spots d v → Placed labels offsets spots e x
   placed-fewer back now =
       record {
         places = now .places;
@@ -139,19 +139,19 @@ module _ {s offsets spots : List ℕ} where
         small = λ w h done. now .small w h (back w h done);
       }
 
-  module _ {d : ℕ} (fit : ParentsFit s) where
+  module _ {d : ℕ} (fit : ParentsFit labels) where
     -- it goes on at the next junction of the same depth, and ends behind the last
-    pub placed-next : {v r : ℕ} → Placed s offsets spots d v → First s d v r → Placed s offsets spots d r
+    pub placed-next : {v r : ℕ} → Placed labels offsets spots d v → First labels d v r → Placed labels offsets spots d r
     placed-next {v} {r} now first =
-        placed-fewer (λ w h done. pick w h done (decLt (1024 * depthOf s w + w) (1024 * d + v))) now
+        placed-fewer (λ w h done. pick w h done (decLt (1024 * depthOf labels w + w) (1024 * d + v))) now
       where
-        pick : (w : ℕ) → w < junctionsOf s → Higher s d r w → Dec (Higher s d v w) → Higher s d v w
+        pick : (w : ℕ) → w < junctionsOf labels → Higher labels d r w → Dec (Higher labels d v w) → Higher labels d v w
         pick w h done (yes before) = before
         pick w h done (no behind) =
-            let level : depthOf s w ≡ d = omega (arith, first .few, first .from-on, fit .few-junctions) in
+            let level : depthOf labels w ≡ d = omega (arith, first .few, first .from-on, fit .few-junctions) in
             absurd (first .skips w (omega arith) (omega arith) h level)
 
-    pub placed-end : {v : ℕ} → Placed s offsets spots d v → junctionsOf s ≤ v → Placed s offsets spots (d + 1) 0
+    pub placed-end : {v : ℕ} → Placed labels offsets spots d v → junctionsOf labels ≤ v → Placed labels offsets spots (d + 1) 0
     placed-end now past = placed-fewer (λ w h done. omega arith) now
 
 -- ---- The order

@@ -40,103 +40,103 @@ never-zero : (number : ℕ) → suc number ≡ 0 → ⊥
 never-zero number e = omega arith
 
 -- Entry j of the list at byte `at` stands whole in the file and keeps the rules
-pub record EntryFits (s : List ℕ) (at j : ℕ) : Type 0 where
-  pub inside : at + 10 + 8 * j ≤ length s
-  pub time-fits : timeFits s at j ≡ true
-  pub energy-fits : energyFits s at j ≡ true
+pub record EntryFits (labels : List ℕ) (at j : ℕ) : Type 0 where
+  pub inside : at + 10 + 8 * j ≤ length labels
+  pub time-fits : timeFits labels at j ≡ true
+  pub energy-fits : energyFits labels at j ≡ true
 
 -- an entry whose number is 0 keeps the rules
-pub entry-fits : (s : List ℕ) (at j : ℕ) → entryNumber s at j ≡ 0 → EntryFits s at j
+pub entry-fits : (labels : List ℕ) (at j : ℕ) → entryNumber labels at j ≡ 0 → EntryFits labels at j
 unfolding entryNumber
-entry-fits s at j e =
-    let a = unless-passed {test = leb (at + 6 + 8 * j) (length s)} (never-zero 10) e in
-    let b = unless-passed {test = timeFits s at j} (never-zero 16) (a .1) in
-    let c = unless-passed {test = leb (at + 10 + 8 * j) (length s)} (never-zero 10) (b .1) in
-    let d = unless-passed {test = energyFits s at j} {next = 0} (never-zero 16) (c .1) in
+entry-fits labels at j e =
+    let a = unless-passed {test = leb (at + 6 + 8 * j) (length labels)} (never-zero 10) e in
+    let b = unless-passed {test = timeFits labels at j} (never-zero 16) (a .1) in
+    let c = unless-passed {test = leb (at + 10 + 8 * j) (length labels)} (never-zero 10) (b .1) in
+    let d = unless-passed {test = energyFits labels at j} {next = 0} (never-zero 16) (c .1) in
     record { inside = leb-true _ _ (c .0); time-fits = b .0; energy-fits = d .0 }
 
 -- and back
-pub fits-entry : {s : List ℕ} {at j : ℕ} → EntryFits s at j → entryNumber s at j ≡ 0
+pub fits-entry : {labels : List ℕ} {at j : ℕ} → EntryFits labels at j → entryNumber labels at j ≡ 0
 unfolding entryNumber
-fits-entry {s} {at} {j} h =
+fits-entry {labels} {at} {j} h =
     let inside = h .inside in
-    rw (le-leb (at + 6 + 8 * j) (length s) (omega arith), h .time-fits, le-leb (at + 10 + 8 * j) (length s) (omega arith), h .energy-fits)
+    rw (le-leb (at + 6 + 8 * j) (length labels) (omega arith), h .time-fits, le-leb (at + 10 + 8 * j) (length labels) (omega arith), h .energy-fits)
 
 -- The rules, as facts about the numbers
-pub record TimeRules (s : List ℕ) (at j : ℕ) : Type 0 where
-  pub least : 1 ≤ timeAt s at j
-  pub most : timeAt s at j ≤ mostFigure
-  pub follows : timeFollows s at j ≡ true
+pub record TimeRules (labels : List ℕ) (at j : ℕ) : Type 0 where
+  pub least : 1 ≤ timeAt labels at j
+  pub most : timeAt labels at j ≤ mostFigure
+  pub follows : timeFollows labels at j ≡ true
 
-pub record EnergyRules (s : List ℕ) (at j : ℕ) : Type 0 where
-  pub least : leastEntryEnergy (versionOf s) ≤ energyAt s at j
-  pub most : energyAt s at j ≤ mostFigure
-  pub follows : energyFollows s at j ≡ true
+pub record EnergyRules (labels : List ℕ) (at j : ℕ) : Type 0 where
+  pub least : leastEntryEnergy (versionOf labels) ≤ energyAt labels at j
+  pub most : energyAt labels at j ≤ mostFigure
+  pub follows : energyFollows labels at j ≡ true
 
 -- a time whose test holds keeps the rules
-pub time-rules : {s : List ℕ} {at j : ℕ} → timeFits s at j ≡ true → TimeRules s at j
+pub time-rules : {labels : List ℕ} {at j : ℕ} → timeFits labels at j ≡ true → TimeRules labels at j
 unfolding timeFits
-time-rules {s} {at} {j} e =
-    let a = and-both (leb 1 (timeAt s at j) && leb (timeAt s at j) mostFigure) (timeFollows s at j) e in
-    let b = and-both (leb 1 (timeAt s at j)) (leb (timeAt s at j) mostFigure) (a .0) in
+time-rules {labels} {at} {j} e =
+    let a = and-both (leb 1 (timeAt labels at j) && leb (timeAt labels at j) mostFigure) (timeFollows labels at j) e in
+    let b = and-both (leb 1 (timeAt labels at j)) (leb (timeAt labels at j) mostFigure) (a .0) in
     record { least = leb-true _ _ (b .0); most = leb-true _ _ (b .1); follows = a .1 }
 
 -- likewise an energy, and back
-pub energy-rules : {s : List ℕ} {at j : ℕ} → energyFits s at j ≡ true → EnergyRules s at j
+pub energy-rules : {labels : List ℕ} {at j : ℕ} → energyFits labels at j ≡ true → EnergyRules labels at j
 unfolding energyFits
-energy-rules {s} {at} {j} e =
-    let a = and-both (leb (leastEntryEnergy (versionOf s)) (energyAt s at j) && leb (energyAt s at j) mostFigure) (energyFollows s at j) e in
-    let b = and-both (leb (leastEntryEnergy (versionOf s)) (energyAt s at j)) (leb (energyAt s at j) mostFigure) (a .0) in
+energy-rules {labels} {at} {j} e =
+    let a = and-both (leb (leastEntryEnergy (versionOf labels)) (energyAt labels at j) && leb (energyAt labels at j) mostFigure) (energyFollows labels at j) e in
+    let b = and-both (leb (leastEntryEnergy (versionOf labels)) (energyAt labels at j)) (leb (energyAt labels at j) mostFigure) (a .0) in
     record { least = leb-true _ _ (b .0); most = leb-true _ _ (b .1); follows = a .1 }
 
-pub rules-energy : {s : List ℕ} {at j : ℕ} → EnergyRules s at j → energyFits s at j ≡ true
+pub rules-energy : {labels : List ℕ} {at j : ℕ} → EnergyRules labels at j → energyFits labels at j ≡ true
 unfolding energyFits
 rules-energy h = and-true (and-true (le-leb _ _ (h .least)) (le-leb _ _ (h .most))) (h .follows)
 
 -- ---- A list whose number is 0 fits
 
 -- a list whose number is 0 fits
-pub list-fits : (s : List ℕ) (at : ℕ) → listNumber s at ≡ 0 → ListFits s at
+pub list-fits : (labels : List ℕ) (at : ℕ) → listNumber labels at ≡ 0 → ListFits labels at
 unfolding listNumber listEnd
-list-fits s at e = built
+list-fits labels at e = built
   where
-    count-inside : (leb (at + 2) (length s) ≡ true) × (unless (leb (countAt s at) mostCount) 17 (firstFault (entryNumber s at) 0 (countAt s at)) ≡ 0)
+    count-inside : (leb (at + 2) (length labels) ≡ true) × (unless (leb (countAt labels at) mostCount) 17 (firstFault (entryNumber labels at) 0 (countAt labels at)) ≡ 0)
     count-inside = unless-passed (never-zero 10) e
 
-    count-fits : (leb (countAt s at) mostCount ≡ true) × (firstFault (entryNumber s at) 0 (countAt s at) ≡ 0)
+    count-fits : (leb (countAt labels at) mostCount ≡ true) × (firstFault (entryNumber labels at) 0 (countAt labels at) ≡ 0)
     count-fits = unless-passed (never-zero 16) (count-inside .1)
 
-    entry : (j : ℕ) → j < countAt s at → EntryFits s at j
-    entry j h = entry-fits s at j (no-fault (entryNumber s at) (countAt s at) (count-fits .1) (omega arith) (omega arith))
+    entry : (j : ℕ) → j < countAt labels at → EntryFits labels at j
+    entry j h = entry-fits labels at j (no-fault (entryNumber labels at) (countAt labels at) (count-fits .1) (omega arith) (omega arith))
 
     -- the last entry ends where the list does
-    ends : (count : ℕ) → ((j : ℕ) → j < count → EntryFits s at j) → at + 2 + 8 * count ≤ length s
-    ends zero all = omega (arith, leb-true (at + 2) (length s) (count-inside .0))
+    ends : (count : ℕ) → ((j : ℕ) → j < count → EntryFits labels at j) → at + 2 + 8 * count ≤ length labels
+    ends zero all = omega (arith, leb-true (at + 2) (length labels) (count-inside .0))
     ends (suc j) all = omega (arith, all j (omega arith) .inside)
 
-    time : (j : ℕ) → j < countAt s at → TimeRules s at j
+    time : (j : ℕ) → j < countAt labels at → TimeRules labels at j
     time j h = time-rules (entry j h .time-fits)
 
-    units : (j : ℕ) → j < countAt s at → EnergyRules s at j
-    units j h = energy-rules (entry j h .energy-fits)
+    energies : (j : ℕ) → j < countAt labels at → EnergyRules labels at j
+    energies j h = energy-rules (entry j h .energy-fits)
 
-    built : ListFits s at
+    built : ListFits labels at
     built =
         record {
           short = leb-true _ _ (count-fits .0);
-          inside = ends (countAt s at) entry;
+          inside = ends (countAt labels at) entry;
           time-fits = λ j h. (time j h .least, time j h .most);
-          energy-fits = λ j h. (units j h .least, units j h .most);
+          energy-fits = λ j h. (energies j h .least, energies j h .most);
           time-falls = λ j h. ltb-true _ _ (time (suc j) h .follows);
-          energy-rises = λ j h. ltb-true _ _ (units (suc j) h .follows);
+          energy-rises = λ j h. ltb-true _ _ (energies (suc j) h .follows);
         }
 
 -- ---- All lists
 
 -- where no list has a fault, every list fits
-pub lists-fit : (s : List ℕ) → listsNumber s ≡ 0 → {g : ℕ} → g < listsOf s → ListFits s (placeOf s g)
+pub lists-fit : (labels : List ℕ) → listsNumber labels ≡ 0 → {g : ℕ} → g < listsOf labels → ListFits labels (placeOf labels g)
 unfolding listsNumber
-lists-fit s e {g} h = list-fits s (placeOf s g) (no-fault (λ g. listNumber s (placeOf s g)) (listsOf s) e (omega arith) (omega arith))
+lists-fit labels e {g} h = list-fits labels (placeOf labels g) (no-fault (λ g. listNumber labels (placeOf labels g)) (listsOf labels) e (omega arith) (omega arith))
 
 -- ---- What the entries of a list that fits are
 
@@ -154,5 +154,5 @@ ordered-tabulate t e (suc (suc n)) rises falls =
     (ordered-tabulate (λ j. t (suc j)) (λ j. e (suc j)) (suc n) (λ j h. rises (suc j) (omega arith)) (λ j h. falls (suc j) (omega arith)))
 
 -- the entries of a list that fits are ordered
-pub list-ordered : {s : List ℕ} {at : ℕ} → ListFits s at → Ordered (listAt s at)
-list-ordered {s} {at} fits = ordered-tabulate (timeAt s at) (energyAt s at) (countAt s at) (fits .energy-rises) (fits .time-falls)
+pub list-ordered : {labels : List ℕ} {at : ℕ} → ListFits labels at → Ordered (listAt labels at)
+list-ordered {labels} {at} fits = ordered-tabulate (timeAt labels at) (energyAt labels at) (countAt labels at) (fits .energy-rises) (fits .time-falls)

@@ -21,38 +21,38 @@ use Rattle.stored.proofs.Places.{list-number-of, found-fits}
 use Rattle.stored.proofs.Lists.{list-ordered}
 
 -- a junction with an ancestor is on the map
-pub below-on-map : (s : List ℕ) {u v : ℕ} → Above (parentsOf s) u v → v < junctionsOf s
-below-on-map s (Above.parent-is e) = parents-some s e .on-map
-below-on-map s (Above.parent-has e above) = parents-some s e .on-map
+pub below-on-map : (labels : List ℕ) {u v : ℕ} → Above (parentsOf labels) u v → v < junctionsOf labels
+below-on-map labels (Above.parent-is e) = parents-some labels e .on-map
+below-on-map labels (Above.parent-has e above) = parents-some labels e .on-map
 
-module _ {s : List ℕ} (formed : Formed s) where
+module _ {labels : List ℕ} (formed : Formed labels) where
   -- the list of a junction and its proper ancestor is one of the file's lists
-  pub stored-stands : {u v : ℕ} → Above (parentsOf s) u v → FoundList s v u (listPlace s v u)
+  pub stored-stands : {u v : ℕ} → Above (parentsOf labels) u v → FoundList labels v u (listPlace labels v u)
   unfolding listPlace
   stored-stands {u} {v} above =
-      record { place = refl; number = listsBefore s v + (depthOf s v - depthOf s u - 1); below = list-number-of s (below-on-map s above) deeper; stands = refl }
+      record { place = refl; number = listsBefore labels v + (depthOf labels v - depthOf labels u - 1); below = list-number-of labels (below-on-map labels above) deeper; stands = refl }
     where
-      deeper : depthOf s v - depthOf s u - 1 < depthOf s v
-      deeper = omega (arith, above-shallower s (formed .parents .ends) above)
+      deeper : depthOf labels v - depthOf labels u - 1 < depthOf labels v
+      deeper = omega (arith, above-shallower labels (formed .parents .ends) above)
 
-  pub stored-fits : {u v : ℕ} → Above (parentsOf s) u v → ListFits s (listPlace s v u)
+  pub stored-fits : {u v : ℕ} → Above (parentsOf labels) u v → ListFits labels (listPlace labels v u)
   stored-fits above = found-fits formed (stored-stands above)
 
-  pub stored-ordered : {u v : ℕ} → Above (parentsOf s) u v → Ordered (stored s v u)
+  pub stored-ordered : {u v : ℕ} → Above (parentsOf labels) u v → Ordered (stored labels v u)
   unfolding stored
   stored-ordered above = list-ordered (stored-fits above)
 
-module _ {net s : List ℕ} (beside : FilesFit net s) where
+module _ {net labels : List ℕ} (beside : FilesFit net labels) where
   pub roads-two-way : TwoWay (networkOf net)
   roads-two-way = record { back = two-way }
 
-  pub parents-forest : IsForest (parentsOf s)
+  pub parents-forest : IsForest (parentsOf labels)
   parents-forest = forest (beside .formed .parents)
 
-  pub roads-joined : RoadsJoinRelated (networkOf net) (parentsOf s)
+  pub roads-joined : RoadsJoinRelated (networkOf net) (parentsOf labels)
   roads-joined = roads-related (beside .formed .parents) (beside .network) (beside .one-map) (beside .joins)
 
-  pub lists-ordered : AllOrdered (networkOf net) (parentsOf s) (stored s)
+  pub lists-ordered : AllOrdered (networkOf net) (parentsOf labels) (stored labels)
   lists-ordered =
       record {
         rises = λ above. ordered-rises (stored-ordered (beside .formed) above);

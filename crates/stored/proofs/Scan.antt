@@ -26,80 +26,80 @@ use Rattle.stored.proofs.Places.{list-takes, further-none, further-next
 
 -- the number of the list i further than the one at byte `at`
 abbrev numberFurther : List ℕ → ℕ → ℕ → ℕ
-numberFurther s at i = listNumber s (further s at i)
+numberFurther labels at i = listNumber labels (further labels at i)
 
 -- a list without fault stands whole in the file
-pub list-stands : (s : List ℕ) (here : ℕ) {number : ℕ} → number ≡ listNumber s here → number ≡ 0 → here + 2 ≤ length s
-list-stands s here e zero-is = omega (arith, list-takes s here, list-fits s here (sym e ∙ zero-is) .inside)
+pub list-stands : (labels : List ℕ) (here : ℕ) {number : ℕ} → number ≡ listNumber labels here → number ≡ 0 → here + 2 ≤ length labels
+list-stands labels here e zero-is = omega (arith, list-takes labels here, list-fits labels here (sym e ∙ zero-is) .inside)
 
-module _ (s : List ℕ) (at lists total : ℕ) where
+module _ (labels : List ℕ) (at lists total : ℕ) where
   -- before the first list
-  pub passed-none : at ≤ length s → PassedSome s at lists total 0 at total
+  pub passed-none : at ≤ length labels → PassedSome labels at lists total 0 at total
   unfolding firstFault
   passed-none inside =
       record {
         few = omega arith;
         none = refl;
-        place = sym (further-none s at);
+        place = sym (further-none labels at);
         inside = inside;
         counted = omega arith;
       }
 
-  module _ {k here sum : ℕ} (run : PassedSome s at lists total k here sum) where
+  module _ {k here sum : ℕ} (run : PassedSome labels at lists total k here sum) where
     -- the lists behind those that are passed decide
-    behind-decide : firstFault (numberFurther s at) 0 lists ≡ faultsFrom (numberFurther s at) lists k
-    behind-decide = fault-behind (numberFurther s at) (run .few) (run .none)
+    behind-decide : firstFault (numberFurther labels at) 0 lists ≡ faultsFrom (numberFurther labels at) lists k
+    behind-decide = fault-behind (numberFurther labels at) (run .few) (run .none)
 
     -- a list with a fault refuses
     pub passed-fault :
-        {number : ℕ} → k < lists → number ≡ listNumber s here → (number ≡ 0 → ⊥) → ScannedSome s at lists total number 0 0
+        {number : ℕ} → k < lists → number ≡ listNumber labels here → (number ≡ 0 → ⊥) → ScannedSome labels at lists total number 0 0
     passed-fault {number} h e apart =
         record { is = decides; place = λ z. absurd (apart z); inside = λ z. absurd (apart z); counted = λ z. absurd (apart z) }
       where
-        number-is : number ≡ listNumber s (further s at k)
-        number-is = e ∙ ap (listNumber s) (run .place)
+        number-is : number ≡ listNumber labels (further labels at k)
+        number-is = e ∙ ap (listNumber labels) (run .place)
 
-        decides : number ≡ firstFault (numberFurther s at) 0 lists
-        decides = number-is ∙ sym (behind-decide ∙ fault-here (numberFurther s at) h (λ z. apart (number-is ∙ z)))
+        decides : number ≡ firstFault (numberFurther labels at) 0 lists
+        decides = number-is ∙ sym (behind-decide ∙ fault-here (numberFurther labels at) h (λ z. apart (number-is ∙ z)))
 
     -- a list without fault is passed
     pub passed-more :
-        {number count next : ℕ} → k < lists → number ≡ listNumber s here → number ≡ 0 → count ≡ countAt s here → next ≡ listEnd s here →
-        PassedSome s at lists total (k + 1) next (sum + count)
+        {number count next : ℕ} → k < lists → number ≡ listNumber labels here → number ≡ 0 → count ≡ countAt labels here → next ≡ listEnd labels here →
+        PassedSome labels at lists total (k + 1) next (sum + count)
     unfolding listEnd
     passed-more h e zero-is is-count is-next =
         record {
           few = omega arith;
-          none = all-behind ∙ fault-next (numberFurther s at) {n = k + 1} (omega arith) fits ∙ fault-end (numberFurther s at) {n = k + 1} (omega arith);
-          place = is-next ∙ ap (listEnd s) (run .place) ∙ sym (further-next s at k);
-          inside = omega (arith, list-fits s here (sym e ∙ zero-is) .inside);
+          none = all-behind ∙ fault-next (numberFurther labels at) {n = k + 1} (omega arith) fits ∙ fault-end (numberFurther labels at) {n = k + 1} (omega arith);
+          place = is-next ∙ ap (listEnd labels) (run .place) ∙ sym (further-next labels at k);
+          inside = omega (arith, list-fits labels here (sym e ∙ zero-is) .inside);
           counted = omega (arith, run .counted);
         }
       where
-        fits : numberFurther s at k ≡ 0
-        fits = ap (listNumber s) (sym (run .place)) ∙ sym e ∙ zero-is
+        fits : numberFurther labels at k ≡ 0
+        fits = ap (listNumber labels) (sym (run .place)) ∙ sym e ∙ zero-is
 
-        all-behind : firstFault (numberFurther s at) 0 (k + 1) ≡ faultsFrom (numberFurther s at) (k + 1) k
-        all-behind = fault-behind (numberFurther s at) (omega arith) (run .none)
+        all-behind : firstFault (numberFurther labels at) 0 (k + 1) ≡ faultsFrom (numberFurther labels at) (k + 1) k
+        all-behind = fault-behind (numberFurther labels at) (omega arith) (run .none)
 
     -- all are passed
-    pub passed-all : lists ≤ k → ScannedSome s at lists total 0 here sum
+    pub passed-all : lists ≤ k → ScannedSome labels at lists total 0 here sum
     passed-all h =
         record {
-          is = sym (behind-decide ∙ fault-end (numberFurther s at) h);
-          place = λ z. run .place ∙ ap (further s at) (omega (arith, run .few));
+          is = sym (behind-decide ∙ fault-end (numberFurther labels at) h);
+          place = λ z. run .place ∙ ap (further labels at) (omega (arith, run .few));
           inside = λ z. run .inside;
           counted = λ z. omega (arith, run .counted, run .few);
         }
 
     -- the entries counted are no more than the bytes, if they were so before
     pub passed-counts : total ≤ at → sum ≤ here
-    passed-counts h = omega (arith, run .counted, run .place, further-later s at k)
+    passed-counts h = omega (arith, run .counted, run .place, further-later labels at k)
 
     -- those that are left decide
     pub passed-left :
-        {left number behind total-behind : ℕ} → left ≡ lists - k → ScannedSome s here left sum number behind total-behind →
-        ScannedSome s at lists total number behind total-behind
+        {left number behind total-behind : ℕ} → left ≡ lists - k → ScannedSome labels here left sum number behind total-behind →
+        ScannedSome labels at lists total number behind total-behind
     passed-left {left} is-left scanned =
         record {
           is = scanned .is ∙ moved ∙ sym behind-decide;
@@ -108,37 +108,37 @@ module _ (s : List ℕ) (at lists total : ℕ) where
           counted = λ z. omega (arith, run .counted, scanned .counted z, run .few);
         }
       where
-        same : (i : ℕ) → further s here i ≡ further s at (k + i)
-        same i = ap (λ p. further s p i) (run .place) ∙ further-add s at k i
+        same : (i : ℕ) → further labels here i ≡ further labels at (k + i)
+        same i = ap (λ p. further labels p i) (run .place) ∙ further-add labels at k i
 
-        moved : firstFault (numberFurther s here) 0 left ≡ faultsFrom (numberFurther s at) lists k
+        moved : firstFault (numberFurther labels here) 0 left ≡ faultsFrom (numberFurther labels at) lists k
         moved =
-            faults-moved (numberFurther s here) (numberFurther s at) k (λ i. ap (listNumber s) (same i)) left 0 ∙
+            faults-moved (numberFurther labels here) (numberFurther labels at) k (λ i. ap (listNumber labels) (same i)) left 0 ∙
             rw (add-zero k, is-left)
 
-        last-place : further s here left ≡ further s at lists
-        last-place = same left ∙ ap (further s at) (omega (arith, run .few))
+        last-place : further labels here left ≡ further labels at lists
+        last-place = same left ∙ ap (further labels at) (omega (arith, run .few))
 
 -- ---- The lists of all junctions
 
 -- the number of list number g
 abbrev numberAt : List ℕ → ℕ → ℕ
-numberAt s g = listNumber s (placeOf s g)
+numberAt labels g = listNumber labels (placeOf labels g)
 
-module _ (s : List ℕ) where
+module _ (labels : List ℕ) where
   -- The lists of the junctions below v are passed, none with a fault: those of v start at byte `at`
   pub record AllPassed (v at total : ℕ) (tables : List ℕ) : Type 0 where
-    pub few : v ≤ junctionsOf s
-    pub place : at ≡ startOf s v
-    pub inside : at ≤ length s
-    pub counted : total ≡ entriesBefore s (listsBefore s v)
+    pub few : v ≤ junctionsOf labels
+    pub place : at ≡ startOf labels v
+    pub inside : at ≤ length labels
+    pub counted : total ≡ entriesBefore labels (listsBefore labels v)
     pub small : total ≤ at
-    pub left : listsNumber s ≡ faultsFrom (numberAt s) (listsOf s) (listsBefore s v)
+    pub left : listsNumber labels ≡ faultsFrom (numberAt labels) (listsOf labels) (listsBefore labels v)
     pub places : length tables ≡ tablePlaces
-    pub noted : (w : ℕ) → w < v → getD tables (startsFrom + w) 0 ≡ startOf s w
+    pub noted : (w : ℕ) → w < v → getD tables (startsFrom + w) 0 ≡ startOf labels w
 
   -- before the first junction
-  pub all-none : {from : ℕ} {tables : List ℕ} → ParentsFit s → from ≡ listsFrom s → length tables ≡ tablePlaces → AllPassed 0 from 0 tables
+  pub all-none : {from : ℕ} {tables : List ℕ} → ParentsFit labels → from ≡ listsFrom labels → length tables ≡ tablePlaces → AllPassed 0 from 0 tables
   unfolding listsNumber listsBefore placeOf entriesBefore
   all-none parents is-from places =
       record {
@@ -147,45 +147,45 @@ module _ (s : List ℕ) where
         inside = omega (arith, parents .inside);
         counted = refl;
         small = omega arith;
-        left = ap (firstFault (numberAt s) 0) (omega arith);
+        left = ap (firstFault (numberAt labels) 0) (omega arith);
         places = places;
         noted = λ w h. absurd (omega arith);
       }
 
   module _ {v at total number behind sum depth : ℕ} {tables depths : List ℕ} (passed : AllPassed v at total tables)
-      (on-map : v < junctionsOf s) (filled : DepthsFilled s depths) (deep : depth ≡ getD depths v 0)
-      (scanned : ScannedSome s at depth total number behind sum) where
-    is-depth : depth ≡ depthOf s v
+      (on-map : v < junctionsOf labels) (filled : DepthsFilled labels depths) (deep : depth ≡ getD depths v 0)
+      (scanned : ScannedSome labels at depth total number behind sum) where
+    is-depth : depth ≡ depthOf labels v
     is-depth = deep ∙ filled .depth v on-map
 
     -- the lists of v are the next ones of the file
-    next-place : (i : ℕ) → further s at i ≡ placeOf s (listsBefore s v + i)
-    next-place i = ap (λ p. further s p i) (passed .place) ∙ further-place s (listsBefore s v) i
+    next-place : (i : ℕ) → further labels at i ≡ placeOf labels (listsBefore labels v + i)
+    next-place i = ap (λ p. further labels p i) (passed .place) ∙ further-place labels (listsBefore labels v) i
 
-    behind-them : listsBefore s v + depth ≡ listsBefore s (v + 1)
-    behind-them = ap (λ k. listsBefore s v + k) is-depth ∙ sym (listsBefore-next s v)
+    behind-them : listsBefore labels v + depth ≡ listsBefore labels (v + 1)
+    behind-them = ap (λ k. listsBefore labels v + k) is-depth ∙ sym (listsBefore-next labels v)
 
-    last-place : further s at depth ≡ placeOf s (listsBefore s (v + 1))
-    last-place = next-place depth ∙ ap (placeOf s) behind-them
+    last-place : further labels at depth ≡ placeOf labels (listsBefore labels (v + 1))
+    last-place = next-place depth ∙ ap (placeOf labels) behind-them
 
     -- v's lists decide, or those behind them
-    split : listsNumber s ≡ decided number (faultsFrom (numberAt s) (listsOf s) (listsBefore s (v + 1)))
+    split : listsNumber labels ≡ decided number (faultsFrom (numberAt labels) (listsOf labels) (listsBefore labels (v + 1)))
     split =
-        passed .left ∙ ap (firstFault (numberAt s) (listsBefore s v)) count ∙
-        faults-joined (numberAt s) depth (listsBefore s v) (listsOf s - listsBefore s (v + 1)) ∙
+        passed .left ∙ ap (firstFault (numberAt labels) (listsBefore labels v)) count ∙
+        faults-joined (numberAt labels) depth (listsBefore labels v) (listsOf labels - listsBefore labels (v + 1)) ∙
         rw (here, behind-them)
       where
-        count : listsOf s - listsBefore s v ≡ depth + (listsOf s - listsBefore s (v + 1))
-        count = omega (arith, behind-them, is-depth, lists-of-junction s on-map)
+        count : listsOf labels - listsBefore labels v ≡ depth + (listsOf labels - listsBefore labels (v + 1))
+        count = omega (arith, behind-them, is-depth, lists-of-junction labels on-map)
 
-        here : firstFault (numberAt s) (listsBefore s v) depth ≡ number
+        here : firstFault (numberAt labels) (listsBefore labels v) depth ≡ number
         here =
             sym
-            (scanned .is ∙ faults-moved (numberFurther s at) (numberAt s) (listsBefore s v) (λ i. ap (listNumber s) (next-place i)) depth 0 ∙
-            ap (λ g. firstFault (numberAt s) g depth) (add-zero (listsBefore s v)))
+            (scanned .is ∙ faults-moved (numberFurther labels at) (numberAt labels) (listsBefore labels v) (λ i. ap (listNumber labels) (next-place i)) depth 0 ∙
+            ap (λ g. firstFault (numberAt labels) g depth) (add-zero (listsBefore labels v)))
 
     -- a fault among v's lists refuses
-    pub all-fault : (number ≡ 0 → ⊥) → Scanned s (set tables (startsFrom + v) at) number behind sum
+    pub all-fault : (number ≡ 0 → ⊥) → Scanned labels (set tables (startsFrom + v) at) number behind sum
     all-fault apart =
         record {
           is = sym (split ∙ decided-more _ apart);
@@ -196,23 +196,23 @@ module _ (s : List ℕ) where
         }
 
     -- v's lists are passed
-    pub all-more : junctionsOf s ≤ 1024 → number ≡ 0 → AllPassed (v + 1) behind sum (set tables (startsFrom + v) at)
+    pub all-more : junctionsOf labels ≤ 1024 → number ≡ 0 → AllPassed (v + 1) behind sum (set tables (startsFrom + v) at)
     all-more few zero-is =
         record {
           few = omega arith;
           place = scanned .place zero-is ∙ last-place;
           inside = scanned .inside zero-is;
           counted = counted;
-          small = omega (arith, counted, place-is, place-counts s (listsBefore s (v + 1)));
+          small = omega (arith, counted, place-is, place-counts labels (listsBefore labels (v + 1)));
           left = split ∙ rw zero-is;
           places = length-set tables (startsFrom + v) at ∙ passed .places;
           noted = λ w h. pick w h (ℕ-discrete w v);
         }
       where
-        place-is : behind ≡ placeOf s (listsBefore s (v + 1))
+        place-is : behind ≡ placeOf labels (listsBefore labels (v + 1))
         place-is = scanned .place zero-is ∙ last-place
 
-        counted : sum ≡ entriesBefore s (listsBefore s (v + 1))
+        counted : sum ≡ entriesBefore labels (listsBefore labels (v + 1))
         counted =
             omega (
               arith,
@@ -221,27 +221,27 @@ module _ (s : List ℕ) where
               passed .counted,
               place-is,
               is-depth,
-              listsBefore-next s v,
-              place-counts s (listsBefore s v),
-              place-counts s (listsBefore s (v + 1)),
+              listsBefore-next labels v,
+              place-counts labels (listsBefore labels v),
+              place-counts labels (listsBefore labels (v + 1)),
             )
 
-        pick : (w : ℕ) → w < v + 1 → Dec (w ≡ v) → getD (set tables (startsFrom + v) at) (startsFrom + w) 0 ≡ startOf s w
+        pick : (w : ℕ) → w < v + 1 → Dec (w ≡ v) → getD (set tables (startsFrom + v) at) (startsFrom + w) 0 ≡ startOf labels w
         pick w h (yes e) =
             ap (λ i. getD (set tables (startsFrom + v) at) (startsFrom + i) 0) e ∙ getD-set-same tables (startsFrom + v) at 0 (omega (arith, passed .places)) ∙ passed .place ∙
-            ap (startOf s) (sym e)
+            ap (startOf labels) (sym e)
         pick w h (no apart) = getD-set-other tables (startsFrom + v) (startsFrom + w) at 0 (λ same. apart (omega arith)) ∙ passed .noted w (omega arith)
 
   -- all are passed
-  pub all-end : {v at total : ℕ} {tables : List ℕ} → AllPassed v at total tables → junctionsOf s ≤ v → Scanned s tables 0 at total
+  pub all-end : {v at total : ℕ} {tables : List ℕ} → AllPassed v at total tables → junctionsOf labels ≤ v → Scanned labels tables 0 at total
   all-end {v} passed h =
       record {
-        is = sym (passed .left ∙ fault-end (numberAt s) (omega (arith, ap (listsBefore s) all)));
+        is = sym (passed .left ∙ fault-end (numberAt labels) (omega (arith, ap (listsBefore labels) all)));
         places = passed .places;
-        behind = λ z. passed .place ∙ ap (startOf s) all;
-        sum = λ z. passed .counted ∙ ap (λ w. entriesBefore s (listsBefore s w)) all;
+        behind = λ z. passed .place ∙ ap (startOf labels) all;
+        sum = λ z. passed .counted ∙ ap (λ w. entriesBefore labels (listsBefore labels w)) all;
         starts-filled = λ z. record { places = passed .places; start = λ w below. passed .noted w (omega arith) };
       }
     where
-      all : v ≡ junctionsOf s
+      all : v ≡ junctionsOf labels
       all = omega (arith, passed .few)

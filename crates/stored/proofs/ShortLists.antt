@@ -48,55 +48,55 @@ pub energy-follows : {before e : ℕ} {x y : Bool} → x ≡ leb e mostFigure �
 energy-follows {before} {e} {x} small passed rises holds =
     record { most = leb-true e mostFigure (sym small ∙ not-false x passed); rises = ltb-true before e (sym rises ∙ holds) }
 
-module _ (s : List ℕ) (at : ℕ) where
+module _ (labels : List ℕ) (at : ℕ) where
   -- a first entry whose flag is 1 keeps the rules
   pub first-flagged :
-      {x y : Bool} {t e r least : ℕ} → energyEnd s at 0 ≤ length s → least ≡ leastEntryEnergy (versionOf s) → t ≡ timeAt s at 0 →
-      x ≡ timeBelow (suc mostFigure) t → e ≡ energyAt s at 0 → y ≡ energyFrom least e → Flagged ((x ≡ true) × (y ≡ true)) r →
-      Flagged (entryNumber s at 0 ≡ 0) r
+      {x y : Bool} {t e r least : ℕ} → energyEnd labels at 0 ≤ length labels → least ≡ leastEntryEnergy (versionOf labels) → t ≡ timeAt labels at 0 →
+      x ≡ timeBelow (suc mostFigure) t → e ≡ energyAt labels at 0 → y ≡ energyFrom least e → Flagged ((x ≡ true) × (y ≡ true)) r →
+      Flagged (entryNumber labels at 0 ≡ 0) r
   first-flagged inside is-least is-time timed is-energy tested =
       flagged-so
       (λ hold.
       fits-entry
       (record {
         inside = omega arith;
-        time-fits = sym (time-tested s at 0 refl is-time timed) ∙ hold .0;
-        energy-fits = sym (energy-tested s at 0 (omega (arith, is-least)) is-least is-energy tested) ∙ hold .1;
+        time-fits = sym (time-tested labels at 0 refl is-time timed) ∙ hold .0;
+        energy-fits = sym (energy-tested labels at 0 (omega (arith, is-least)) is-least is-energy tested) ∙ hold .1;
       }))
 
   -- and so does a second behind it
   pub second-flagged :
-      {x y : Bool} {t e r before-time before-energy : ℕ} → energyEnd s at 1 ≤ length s → before-time ≡ timeAt s at 0 → t ≡ timeAt s at 1 →
-      x ≡ timeBelow before-time t → before-energy ≡ energyAt s at 0 → e ≡ energyAt s at 1 → (y ≡ true → EnergyFollows before-energy e) →
-      Flagged ((x ≡ true) × (y ≡ true)) r → Flagged (entryNumber s at 0 ≡ 0 → entryNumber s at 1 ≡ 0) r
+      {x y : Bool} {t e r before-time before-energy : ℕ} → energyEnd labels at 1 ≤ length labels → before-time ≡ timeAt labels at 0 → t ≡ timeAt labels at 1 →
+      x ≡ timeBelow before-time t → before-energy ≡ energyAt labels at 0 → e ≡ energyAt labels at 1 → (y ≡ true → EnergyFollows before-energy e) →
+      Flagged ((x ≡ true) × (y ≡ true)) r → Flagged (entryNumber labels at 0 ≡ 0 → entryNumber labels at 1 ≡ 0) r
   second-flagged inside is-before is-time timed is-first is-energy follows =
       flagged-so
       (λ hold first.
       let kept = follows (hold .1) in
-      let before = energy-rules (entry-fits s at 0 first .energy-fits) in
+      let before = energy-rules (entry-fits labels at 0 first .energy-fits) in
       fits-entry
       (record {
         inside = omega arith;
-        time-fits = sym (time-tested s at 1 is-before is-time timed) ∙ hold .0;
+        time-fits = sym (time-tested labels at 1 is-before is-time timed) ∙ hold .0;
         energy-fits =
             rules-energy
             (record {
               least = omega (arith, kept .rises, before .least);
               most = omega (arith, kept .most);
-              follows = lt-ltb (energyAt s at 0) (energyAt s at 1) (omega (arith, kept .rises));
+              follows = lt-ltb (energyAt labels at 0) (energyAt labels at 1) (omega (arith, kept .rises));
             });
       }))
 
 -- the first entry counts by itself, and the second with the first
 pub leading-counted :
-    {s : List ℕ} {at first second : ℕ} → Flagged (entryNumber s at 0 ≡ 0) first → Flagged (entryNumber s at 0 ≡ 0 → entryNumber s at 1 ≡ 0) second →
-    Leading s at (first + first * second)
-leading-counted {s} {at} {first} {second} one two = record { few = omega (arith, one .small, small); fit = fit }
+    {labels : List ℕ} {at first second : ℕ} → Flagged (entryNumber labels at 0 ≡ 0) first → Flagged (entryNumber labels at 0 ≡ 0 → entryNumber labels at 1 ≡ 0) second →
+    Leading labels at (first + first * second)
+leading-counted {labels} {at} {first} {second} one two = record { few = omega (arith, one .small, small); fit = fit }
   where
     small : first * second ≤ 1
     small = product-small first second (one .small) (two .small)
 
-    fit : (j : ℕ) → j < first + first * second → entryNumber s at j ≡ 0
+    fit : (j : ℕ) → j < first + first * second → entryNumber labels at j ≡ 0
     fit zero h = one .holds (some first h)
       where
         some : (a : ℕ) → 0 < a + a * second → 1 ≤ a
@@ -111,49 +111,49 @@ leading-counted {s} {at} {first} {second} one two = record { few = omega (arith,
 
 -- a list no longer than the entries that keep the rules has no fault
 pub short-passes :
-    {s : List ℕ} {at lead count : ℕ} → Leading s at lead → at + 2 ≤ length s → count ≡ countAt s at → count ≤ lead → listNumber s at ≡ 0
-short-passes {s} {at} leads inside is short =
+    {labels : List ℕ} {at lead count : ℕ} → Leading labels at lead → at + 2 ≤ length labels → count ≡ countAt labels at → count ≤ lead → listNumber labels at ≡ 0
+short-passes {labels} {at} leads inside is short =
     sym
-    (list-by-entries s at inside (omega (arith, leads .few))
-    (sym (all-pass (entryNumber s at) (countAt s at) (λ j h l. leads .fit j (omega arith)))))
+    (list-by-entries labels at inside (omega (arith, leads .few))
+    (sym (all-pass (entryNumber labels at) (countAt labels at) (λ j h l. leads .fit j (omega arith)))))
 
 -- a list of one entry that keeps the rules
 pub single-passes :
-    {s : List ℕ} {at count : ℕ} → energyEnd s at 0 ≤ length s → count ≡ countAt s at → count ≡ 1 → entryNumber s at 0 ≡ 0 → SingleList s at
-single-passes {s} {at} inside is one fits = record { one = sym is ∙ one; fits = short-passes lead (omega arith) is (omega arith) }
+    {labels : List ℕ} {at count : ℕ} → energyEnd labels at 0 ≤ length labels → count ≡ countAt labels at → count ≡ 1 → entryNumber labels at 0 ≡ 0 → SingleList labels at
+single-passes {labels} {at} inside is one fits = record { one = sym is ∙ one; fits = short-passes lead (omega arith) is (omega arith) }
   where
-    first : (j : ℕ) → j < 1 → entryNumber s at j ≡ 0
+    first : (j : ℕ) → j < 1 → entryNumber labels at j ≡ 0
     first zero h = fits
     first (suc j) h = absurd (omega arith)
 
-    lead : Leading s at 1
+    lead : Leading labels at 1
     lead = record { few = omega arith; fit = first }
 
 -- ---- A run and one list more
 
 -- Of the lists that a run may pass k are passed, and there is room for those left though each has two entries
-pub record Running (s : List ℕ) (at lists total : ℕ) (end : ℕ) (k here sum : ℕ) : Type 0 where
-  pub run : PassedSome s at lists total k here sum
+pub record Running (labels : List ℕ) (at lists total : ℕ) (end : ℕ) (k here sum : ℕ) : Type 0 where
+  pub run : PassedSome labels at lists total k here sum
   pub reach : end ≤ lists
   pub few : k ≤ end
-  pub room : here + 18 * (end - k) ≤ length s
+  pub room : here + 18 * (end - k) ≤ length labels
 
-module _ {s : List ℕ} {at lists total end : ℕ} where
+module _ {labels : List ℕ} {at lists total end : ℕ} where
   -- before the first list
-  pub running-none : at ≤ length s → Quick (length s - at) lists end → Running s at lists total end 0 at total
+  pub running-none : at ≤ length labels → Quick (length labels - at) lists end → Running labels at lists total end 0 at total
   running-none inside quick =
-      record { run = passed-none s at lists total inside; reach = quick .few; few = omega arith; room = omega (arith, quick .inside) }
+      record { run = passed-none labels at lists total inside; reach = quick .few; few = omega arith; room = omega (arith, quick .inside) }
 
   -- a short list without fault is passed
   pub running-more :
-      {k here sum count more next counted : ℕ} → Running s at lists total end k here sum → k < end → listNumber s here ≡ 0 →
-      count ≡ countAt s here → count ≤ 2 → OneMore k here sum count more next counted → Running s at lists total end more next counted
+      {k here sum count more next counted : ℕ} → Running labels at lists total end k here sum → k < end → listNumber labels here ≡ 0 →
+      count ≡ countAt labels here → count ≤ 2 → OneMore k here sum count more next counted → Running labels at lists total end more next counted
   unfolding listEnd
   running-more {k} {here} running h fits is short step =
       rw (step .listed, step .counted)
       (record {
-        run = passed-more s at lists total (running .run) (omega (arith, running .reach)) (sym fits) refl is (step .place s ∙ ap (λ n. here + 2 + 8 * n) is);
+        run = passed-more labels at lists total (running .run) (omega (arith, running .reach)) (sym fits) refl is (step .place labels ∙ ap (λ n. here + 2 + 8 * n) is);
         reach = running .reach;
         few = omega arith;
-        room = omega (arith, running .room, step .place s);
+        room = omega (arith, running .room, step .place labels);
       })

@@ -1,4 +1,4 @@
--- Laws of `tabulate`, the list f 0, f 1, …, f (n - 1). In this order: its length and its entries; its members; one entry more,
+-- Laws of `tabulate`, the list f 0, f 1, …, f (n - 1). In this order: its length; its members; one entry more,
 -- alone and as what a lent slice was filled with.
 use mathlib.Core.Path.{_≡_, refl, sym, ap, _∙_}
 use mathlib.Core.Logic.{_⊎_, inl, inr}
@@ -17,13 +17,6 @@ module _ {A : Type 0} where
   unfolding tabulate
   length-tabulate f zero = refl
   length-tabulate f (suc n) = ap suc (length-tabulate (λ i. f (suc i)) n)
-
-  -- and f i is the one at place i
-  pub getD-tabulate : (f : ℕ → A) (n : ℕ) {i : ℕ} (d : A) → i < n → getD (tabulate f n) i d ≡ f i
-  unfolding tabulate
-  getD-tabulate f zero d h = absurd (omega arith)
-  getD-tabulate f (suc n) {i = zero} d h = refl
-  getD-tabulate f (suc n) {i = suc i} d h = getD-tabulate (λ i. f (suc i)) n d (omega arith)
 
   -- every f i below n is a member
   pub tabulate-member : (f : ℕ → A) (n : ℕ) {i : ℕ} → i < n → List·Memᴰ (f i) (tabulate f n)
@@ -50,12 +43,6 @@ module _ {A : Type 0} where
           Stands f (suc n) x
       pick next (inl e) = record { place = 0; below = omega arith; is = e }
       pick next (inr later) = let w = next later in record { place = suc (w .place); below = omega arith; is = w .is }
-
-  -- two functions that agree below n have one table
-  pub tabulate-same : (f g : ℕ → A) (n : ℕ) → ((i : ℕ) → i < n → f i ≡ g i) → tabulate f n ≡ tabulate g n
-  unfolding tabulate
-  tabulate-same f g zero same = refl
-  tabulate-same f g (suc n) same = rw (same 0 (omega arith), tabulate-same (λ i. f (suc i)) (λ i. g (suc i)) n (λ i h. same (suc i) (omega arith)))
 
   -- one entry more stands behind the others
   pub tabulate-snoc : (f : ℕ → A) (n : ℕ) (rest : List A) → tabulate f (suc n) ++ rest ≡ tabulate f n ++ f n ∷ rest

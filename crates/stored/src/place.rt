@@ -8,7 +8,7 @@ ghost use Prim.Native.Nat.{_+_, _≤_, _<_};
 ghost use lib.ListN.{length, getD};
 ghost use Rattle.bytes.specs.working.Reads.{ReadU16};
 ghost use Rattle.network.specs.NetworkFile.{junctionsOf};
-ghost use Rattle.forest.specs.LabelFile.{listEnd};
+ghost use Rattle.forest.specs.LabelFile.{countEnd, listEnd};
 ghost use Rattle.forest.specs.Forest.{depthOf};
 ghost use Rattle.stored.specs.ListForm.{mostBytes};
 ghost use Rattle.forest.specs.working.Fits.{DepthsFilled};
@@ -23,7 +23,7 @@ pub struct Place {
 impl Place {
     // How many entries the list here has.
     pub fn count(self, labels: &[u8]) -> u32
-        requires { ⌜ self .at + 2 ≤ length (now labels) ⌝ }
+        requires { ⌜ countEnd (self .at) ≤ length (now labels) ⌝ }
         ensures { λ r. ⌜ ReadU16 (now (labels .entry)) (self .at) r ⌝ }
     {
         let at = self.at;
@@ -32,7 +32,7 @@ impl Place {
 
     // The place of the next list.
     pub fn next(self, labels: &[u8]) -> Place
-        requires { ⌜ self .at + 2 ≤ length (now labels) ⌝ }
+        requires { ⌜ countEnd (self .at) ≤ length (now labels) ⌝ }
         requires { ⌜ length (now labels) ≤ mostBytes ⌝ }
         ensures { λ r. ⌜ r .at ≡ listEnd (now (labels .entry)) (self .at) ⌝ }
     {

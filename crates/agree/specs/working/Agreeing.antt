@@ -20,18 +20,18 @@ use Rattle.agree.specs.working.Covering.{Marking, entryOf}
 -- ---- The input
 
 -- The bytes of the lists of u and each junction related to it: of two, the deeper one stores the list
-pub record PlacesFor (s : List ℕ) (u : ℕ) (places : List ℕ) : Type 0 where
+pub record PlacesFor (labels : List ℕ) (u : ℕ) (places : List ℕ) : Type 0 where
   pub places-length : length places ≡ 1024
-  pub below : (w : ℕ) → w < junctionsOf s → Above (parentsOf s) u w → getD places w 0 ≡ listPlace s w u
-  pub above : (w : ℕ) → w < junctionsOf s → Above (parentsOf s) w u → getD places w 0 ≡ listPlace s u w
+  pub below : (w : ℕ) → w < junctionsOf labels → Above (parentsOf labels) u w → getD places w 0 ≡ listPlace labels w u
+  pub above : (w : ℕ) → w < junctionsOf labels → Above (parentsOf labels) w u → getD places w 0 ≡ listPlace labels u w
 
 -- What is known where the stored list of v and its proper ancestor u is tested
-pub record AgreeInput (net s tables places : List ℕ) (v u : ℕ) : Type 0 where
-  pub beside : FilesFit net s
+pub record AgreeInput (net labels tables places : List ℕ) (v u : ℕ) : Type 0 where
+  pub beside : FilesFit net labels
   pub grouped : Grouped net tables
-  pub places-for : PlacesFor s u places
-  pub on-map : v < junctionsOf s
-  pub above : Above (parentsOf s) u v
+  pub places-for : PlacesFor labels u places
+  pub on-map : v < junctionsOf labels
+  pub above : Above (parentsOf labels) u v
 
 -- Every mark is 0
 pub record Unmarked (marks : List ℕ) : Type 0 where
@@ -39,10 +39,10 @@ pub record Unmarked (marks : List ℕ) : Type 0 where
   pub each : (i : ℕ) → i < 4096 → getD marks i 0 ≡ 0
 
 -- What is known where road k of v is followed
-pub record RoadInput (net s places : List ℕ) (v u k : ℕ) : Type 0 where
-  pub beside : FilesFit net s
-  pub places-for : PlacesFor s u places
-  pub above : Above (parentsOf s) u v
+pub record RoadInput (net labels places : List ℕ) (v u k : ℕ) : Type 0 where
+  pub beside : FilesFit net labels
+  pub places-for : PlacesFor labels u places
+  pub above : Above (parentsOf labels) u v
   pub stands : k < roadsOf net
   pub here : touches net v k ≡ true
 
@@ -50,26 +50,26 @@ pub record RoadInput (net s places : List ℕ) (v u k : ℕ) : Type 0 where
 
 -- q is an entry of the list of w and u, wherever that is stored
 abbrev pub Left : List ℕ → List ℕ → ℕ → ℕ → Weight → Type 0
-Left net s w u q = Rest (networkOf net) (parentsOf s) (stored s) w u q
+Left net labels w u q = Rest (networkOf net) (parentsOf labels) (stored labels) w u q
 
 -- p is a road's weight from v and an entry of what is left to u
 abbrev pub Met : List ℕ → List ℕ → ℕ → ℕ → Weight → Type 0
-Met net s v u p = MetFrom (networkOf net) (parentsOf s) (stored s) v u p
+Met net labels v u p = MetFrom (networkOf net) (parentsOf labels) (stored labels) v u p
 
 -- Every sum that starts with road k is covered by the list at byte `own`
-pub record RoadCovers (net s : List ℕ) (v u own k : ℕ) : Type 0 where
-  pub covers : {w : ℕ} {a q : Weight} → RoadArc net v w k a → Left net s w u q → Covered energy (listAt s own) (weights energy ._⊕_ a q)
+pub record RoadCovers (net labels : List ℕ) (v u own k : ℕ) : Type 0 where
+  pub covers : {w : ℕ} {a q : Weight} → RoadArc net v w k a → Left net labels w u q → Covered energy (listAt labels own) (weights energy ._⊕_ a q)
 
 -- Entry i of the list at byte `own` equals a sum that starts with road k
-pub record MetOver (net s : List ℕ) (v u own k i : ℕ) : Type 0 where
-  pub in-list : i < countAt s own
-  pub met : Met net s v u (entryOf s own i)
+pub record MetOver (net labels : List ℕ) (v u own k i : ℕ) : Type 0 where
+  pub in-list : i < countAt labels own
+  pub met : Met net labels v u (entryOf labels own i)
   pub over : met .number ≡ k
 
 -- The answer tells whether the sums over road k are covered; if so, the entries that one equals are marked
-pub record RoadTested (net s : List ℕ) (v u own k : ℕ) (marks marksAfter : List ℕ) (answer : Bool) : Type 0 where
-  pub decides : Decides (RoadCovers net s v u own k) answer
-  pub marking : answer ≡ true → Marking (MetOver net s v u own k) marks marksAfter
+pub record RoadTested (net labels : List ℕ) (v u own k : ℕ) (marks marksAfter : List ℕ) (answer : Bool) : Type 0 where
+  pub decides : Decides (RoadCovers net labels v u own k) answer
+  pub marking : answer ≡ true → Marking (MetOver net labels v u own k) marks marksAfter
 
 -- ---- Marks
 

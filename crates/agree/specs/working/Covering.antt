@@ -24,62 +24,62 @@ pub record Marking (P : ℕ → Type 0) (marks marksAfter : List ℕ) : Type 0 w
 -- ---- One entry
 
 -- The list at a byte fits and has so many entries
-pub record ListRead (s : List ℕ) (at count : ℕ) : Type 0 where
-  pub fits : ListFits s at
-  pub counted : count ≡ countAt s at
+pub record ListRead (labels : List ℕ) (at count : ℕ) : Type 0 where
+  pub fits : ListFits labels at
+  pub counted : count ≡ countAt labels at
 
 -- Entry j of the list at a byte
 abbrev pub entryOf : List ℕ → ℕ → ℕ → Weight
-entryOf s at j = pair (timeAt s at j) (energyAt s at j)
+entryOf labels at j = pair (timeAt labels at j) (energyAt labels at j)
 
 -- Entry i covers the sum: it is an entry, and no larger in both numbers
-pub record CoversAt (s : List ℕ) (own : ℕ) (sum : Weight) (i : ℕ) : Type 0 where
-  pub in-list : i < countAt s own
-  pub no-larger : weights energy ._⊑_ (entryOf s own i) sum
+pub record CoversAt (labels : List ℕ) (own : ℕ) (sum : Weight) (i : ℕ) : Type 0 where
+  pub in-list : i < countAt labels own
+  pub no-larger : weights energy ._⊑_ (entryOf labels own i) sum
 
 -- Entry i equals the sum
-pub record EqualsAt (s : List ℕ) (own : ℕ) (sum : Weight) (i : ℕ) : Type 0 where
-  pub in-list : i < countAt s own
-  pub is : entryOf s own i ≡ sum
+pub record EqualsAt (labels : List ℕ) (own : ℕ) (sum : Weight) (i : ℕ) : Type 0 where
+  pub in-list : i < countAt labels own
+  pub is : entryOf labels own i ≡ sum
 
 -- The answer tells whether entry i covers the sum. If so, what equals the sum is marked; if not, no mark changes.
-pub record EntryCompared (s : List ℕ) (own : ℕ) (sum : Weight) (i : ℕ) (marks marksAfter : List ℕ) (answer : Bool) : Type 0 where
-  pub decides : Decides (CoversAt s own sum i) answer
-  pub marking : answer ≡ true → Marking (EqualsAt s own sum) marks marksAfter
+pub record EntryCompared (labels : List ℕ) (own : ℕ) (sum : Weight) (i : ℕ) (marks marksAfter : List ℕ) (answer : Bool) : Type 0 where
+  pub decides : Decides (CoversAt labels own sum i) answer
+  pub marking : answer ≡ true → Marking (EqualsAt labels own sum) marks marksAfter
   pub kept : answer ≡ false → marksAfter ≡ marks
 
 -- ---- One sum
 
 -- r is the first entry from the hint on that is no slower than a time; the count if there is none
-pub record QuickFrom (s : List ℕ) (own time hint r : ℕ) : Type 0 where
+pub record QuickFrom (labels : List ℕ) (own time hint r : ℕ) : Type 0 where
   pub from : hint ≤ r
-  pub in-list : r ≤ countAt s own
-  pub slow : (i : ℕ) → hint ≤ i → i < r → time < timeAt s own i
-  pub quick : r < countAt s own → timeAt s own r ≤ time
+  pub in-list : r ≤ countAt labels own
+  pub slow : (i : ℕ) → hint ≤ i → i < r → time < timeAt labels own i
+  pub quick : r < countAt labels own → timeAt labels own r ≤ time
 
--- The entry before `next`, if there is one, has energy at most these units
-pub record Behind (s : List ℕ) (own next units : ℕ) : Type 0 where
-  pub in-list : next ≤ countAt s own
-  pub cheap : 0 < next → energyAt s own (next - 1) ≤ units
+-- The entry before `next`, if there is one, takes no more than this
+pub record Behind (labels : List ℕ) (own next most : ℕ) : Type 0 where
+  pub in-list : next ≤ countAt labels own
+  pub cheap : 0 < next → energyAt labels own (next - 1) ≤ most
 
 -- r is an entry that covers the sum, or the count if none does. If one does, what equals the sum is marked.
-pub record SumCompared (s : List ℕ) (own : ℕ) (sum : Weight) (marks marksAfter : List ℕ) (r : ℕ) : Type 0 where
-  pub in-list : r ≤ countAt s own
-  pub covers : r < countAt s own → CoversAt s own sum r
-  pub none : r ≡ countAt s own → (i : ℕ) → CoversAt s own sum i → ⊥
-  pub marking : r < countAt s own → Marking (EqualsAt s own sum) marks marksAfter
+pub record SumCompared (labels : List ℕ) (own : ℕ) (sum : Weight) (marks marksAfter : List ℕ) (r : ℕ) : Type 0 where
+  pub in-list : r ≤ countAt labels own
+  pub covers : r < countAt labels own → CoversAt labels own sum r
+  pub none : r ≡ countAt labels own → (i : ℕ) → CoversAt labels own sum i → ⊥
+  pub marking : r < countAt labels own → Marking (EqualsAt labels own sum) marks marksAfter
 
 -- ---- All sums of a road
 
 -- Entry i equals a sum of the arc and an entry of what is left
-pub record MetBy (s : List ℕ) (own : ℕ) (arc : Weight) (left : List Weight) (i : ℕ) : Type 0 where
-  pub in-list : i < countAt s own
+pub record MetBy (labels : List ℕ) (own : ℕ) (arc : Weight) (left : List Weight) (i : ℕ) : Type 0 where
+  pub in-list : i < countAt labels own
   pub rest : Weight
   pub member : List·Memᴰ rest left
-  pub adds : weights energy ._⊕_ arc rest ≡ entryOf s own i
+  pub adds : weights energy ._⊕_ arc rest ≡ entryOf labels own i
 
 -- The answer tells whether every sum of the arc and an entry of what is left is covered by the list. If so, the entries that equal
 -- such a sum are marked.
-pub record Covering (s : List ℕ) (own : ℕ) (arc : Weight) (left : List Weight) (marks marksAfter : List ℕ) (answer : Bool) : Type 0 where
-  pub decides : Decides ((q : Weight) → List·Memᴰ q left → Covered energy (listAt s own) (weights energy ._⊕_ arc q)) answer
-  pub marking : answer ≡ true → Marking (MetBy s own arc left) marks marksAfter
+pub record Covering (labels : List ℕ) (own : ℕ) (arc : Weight) (left : List Weight) (marks marksAfter : List ℕ) (answer : Bool) : Type 0 where
+  pub decides : Decides ((q : Weight) → List·Memᴰ q left → Covered energy (listAt labels own) (weights energy ._⊕_ arc q)) answer
+  pub marking : answer ≡ true → Marking (MetBy labels own arc left) marks marksAfter

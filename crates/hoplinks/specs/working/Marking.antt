@@ -21,18 +21,18 @@ pub record OneMark (marks : List ℕ) (own : ℕ) : Type 0 where
   pub last : getD marks own 0 ≡ 1
 
 -- `upper` is a proper ancestor of `lower`
-pub record OnBranch (s : List ℕ) (upper lower : ℕ) : Type 0 where
-  pub upper-on-map : upper < junctionsOf s
-  pub lower-on-map : lower < junctionsOf s
-  pub above : Above (parentsOf s) upper lower
+pub record OnBranch (labels : List ℕ) (upper lower : ℕ) : Type 0 where
+  pub upper-on-map : upper < junctionsOf labels
+  pub lower-on-map : lower < junctionsOf labels
+  pub above : Above (parentsOf labels) upper lower
 
 -- r is the depth of `upper` where l stands between it and `lower`, and else the depth of l
-pub data CrossingDepth (s : List ℕ) (l upper lower r : ℕ) : Type 0 where
-  crosses : Above (parentsOf s) upper l → Ancestor (parentsOf s) l lower → r ≡ depthOf s upper → CrossingDepth s l upper lower r
-  passes-by : (Above (parentsOf s) upper l → Ancestor (parentsOf s) l lower → ⊥) → r ≡ depthOf s l → CrossingDepth s l upper lower r
+pub data CrossingDepth (labels : List ℕ) (l upper lower r : ℕ) : Type 0 where
+  crosses : Above (parentsOf labels) upper l → Ancestor (parentsOf labels) l lower → r ≡ depthOf labels upper → CrossingDepth labels l upper lower r
+  passes-by : (Above (parentsOf labels) upper l → Ancestor (parentsOf labels) l lower → ⊥) → r ≡ depthOf labels l → CrossingDepth labels l upper lower r
 
 -- r is the depth of a junction in the working set of l, and if road k puts a proper ancestor of l there, it is the depth of that one
-pub record RoadMark (net s : List ℕ) (l k r : ℕ) : Type 0 where
-  pub up : r ≤ depthOf s l
-  pub right : WorkingSet (networkOf net) (parentsOf s) l (ancestorOf s l (depthOf s l - r))
-  pub all : {h end : ℕ} {w : weights energy .Figure} → Above (parentsOf s) h l → Ancestor (parentsOf s) l end → RoadArc net h end k w → r ≡ depthOf s h
+pub record RoadMark (net labels : List ℕ) (l k r : ℕ) : Type 0 where
+  pub up : r ≤ depthOf labels l
+  pub right : WorkingSet (networkOf net) (parentsOf labels) l (ancestorOf labels l (depthOf labels l - r))
+  pub all : {h end : ℕ} {w : weights energy .Figure} → Above (parentsOf labels) h l → Ancestor (parentsOf labels) l end → RoadArc net h end k w → r ≡ depthOf labels h

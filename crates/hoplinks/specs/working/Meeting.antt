@@ -9,12 +9,13 @@ use Rattle.forest.specs.LabelFile.{parentsOf}
 use Rattle.forest.specs.Forest.{depthOf, ancestorOf}
 
 -- l is the deepest common ancestor of x and y
-pub record MeetsAt (s : List ℕ) (x y l : ℕ) : Type 0 where
-  pub on-map : l < junctionsOf s
-  pub deepest : Deepest (parentsOf s) x y l
+pub record MeetsAt (labels : List ℕ) (x y l : ℕ) : Type 0 where
+  pub on-map : l < junctionsOf labels
+  pub deepest : Deepest (parentsOf labels) x y l
 
--- By depth: 1 for the ancestors of l that are in its working set (the hoplinks, where l is the deepest common ancestor)
-pub record HopMarks (net s : List ℕ) (l : ℕ) (marks : List ℕ) : Type 0 where
+-- By depth, down to l: 1 for the ancestors of l that are in its working set (the hoplinks, where l is the deepest common ancestor), 0 for the others
+pub record HopMarks (net labels : List ℕ) (l : ℕ) (marks : List ℕ) : Type 0 where
   pub marks-length : length marks ≡ 1024
-  pub marked : (k : ℕ) → k ≤ depthOf s l → getD marks k 0 ≡ 1 → WorkingSet (networkOf net) (parentsOf s) l (ancestorOf s l (depthOf s l - k))
-  pub all-marked : (k : ℕ) → k ≤ depthOf s l → WorkingSet (networkOf net) (parentsOf s) l (ancestorOf s l (depthOf s l - k)) → getD marks k 0 ≡ 1
+  pub small : (k : ℕ) → k ≤ depthOf labels l → getD marks k 0 ≤ 1
+  pub marked : (k : ℕ) → k ≤ depthOf labels l → getD marks k 0 ≡ 1 → WorkingSet (networkOf net) (parentsOf labels) l (ancestorOf labels l (depthOf labels l - k))
+  pub all-marked : (k : ℕ) → k ≤ depthOf labels l → WorkingSet (networkOf net) (parentsOf labels) l (ancestorOf labels l (depthOf labels l - k)) → getD marks k 0 ≡ 1

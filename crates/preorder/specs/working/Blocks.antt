@@ -16,25 +16,25 @@ Apart starts sizes u w = (getD starts u 0 + getD sizes u 0 ≤ getD starts w 0) 
 
 -- The junctions of which `Done` holds have their blocks in their parents': `offsets` says how far behind the parent's start each begins, a
 -- root's how far behind 0, and the roots fill `total`
-pub record BlocksOf (s sizes offsets : List ℕ) (total : ℕ) (Done : ℕ → Type 0) : Type 0 where
+pub record BlocksOf (labels sizes offsets : List ℕ) (total : ℕ) (Done : ℕ → Type 0) : Type 0 where
   pub size-places : length sizes ≡ 1024
   pub offset-places : length offsets ≡ 1024
-  pub itself : (w : ℕ) → w < junctionsOf s → 1 ≤ getD sizes w 0
-  pub small : (w : ℕ) → w < junctionsOf s → getD sizes w 0 ≤ 1024
-  pub of-root : (w : ℕ) → w < junctionsOf s → Done w → parentAt s w ≡ noParent → getD offsets w 0 + getD sizes w 0 ≤ total
+  pub itself : (w : ℕ) → w < junctionsOf labels → 1 ≤ getD sizes w 0
+  pub small : (w : ℕ) → w < junctionsOf labels → getD sizes w 0 ≤ 1024
+  pub of-root : (w : ℕ) → w < junctionsOf labels → Done w → parentAt labels w ≡ noParent → getD offsets w 0 + getD sizes w 0 ≤ total
   pub of-child :
       (w : ℕ) →
-      w < junctionsOf s →
+      w < junctionsOf labels →
       Done w →
-      (parentAt s w ≡ noParent → ⊥) →
-      (1 ≤ getD offsets w 0) × (getD offsets w 0 + getD sizes w 0 ≤ getD sizes (parentAt s w) 0)
+      (parentAt labels w ≡ noParent → ⊥) →
+      (1 ≤ getD offsets w 0) × (getD offsets w 0 + getD sizes w 0 ≤ getD sizes (parentAt labels w) 0)
   pub apart :
       (u w : ℕ) →
-      u < junctionsOf s →
-      w < junctionsOf s →
+      u < junctionsOf labels →
+      w < junctionsOf labels →
       Done u →
       Done w →
-      parentAt s u ≡ parentAt s w →
+      parentAt labels u ≡ parentAt labels w →
       (u ≡ w → ⊥) →
       Apart offsets sizes u w
 
@@ -44,37 +44,37 @@ sumOf [] = 0
 sumOf (x ∷ xs) = x + sumOf xs
 
 -- The blocks that are in no other yet add up, with the total of the roots, to the count of junctions
-pub record Rests (s sizes : List ℕ) (total : ℕ) (Done : ℕ → Type 0) : Type 0 where
+pub record Rests (labels sizes : List ℕ) (total : ℕ) (Done : ℕ → Type 0) : Type 0 where
   pub rests : List ℕ
-  pub places : length rests ≡ junctionsOf s
-  pub rest : (w : ℕ) → w < junctionsOf s → (Done w → ⊥) → getD rests w 0 ≡ getD sizes w 0
-  pub all : total + sumOf rests ≡ junctionsOf s
+  pub places : length rests ≡ junctionsOf labels
+  pub rest : (w : ℕ) → w < junctionsOf labels → (Done w → ⊥) → getD rests w 0 ≡ getD sizes w 0
+  pub all : total + sumOf rests ≡ junctionsOf labels
 
 -- The deepest junctions, down to depth d and there below v, have their blocks in their parents'
-pub record Merged (s sizes offsets : List ℕ) (total d v : ℕ) : Type 0 where
-  pub blocks : BlocksOf s sizes offsets total (Deeper s d v)
-  pub rests : Rests s sizes total (Deeper s d v)
+pub record Merged (labels sizes offsets : List ℕ) (total d v : ℕ) : Type 0 where
+  pub blocks : BlocksOf labels sizes offsets total (Deeper labels d v)
+  pub rests : Rests labels sizes total (Deeper labels d v)
 
 -- Every junction has its block in its parent's, a root's below the count of junctions
 abbrev pub AllMerged : List ℕ → List ℕ → List ℕ → Type 0
-AllMerged s sizes offsets = BlocksOf s sizes offsets (junctionsOf s) (Deeper s 0 1024)
+AllMerged labels sizes offsets = BlocksOf labels sizes offsets (junctionsOf labels) (Deeper labels 0 1024)
 
 -- The offsets are small, so that no sum along a chain wraps
-pub record OffsetsSmall (s offsets : List ℕ) : Type 0 where
+pub record OffsetsSmall (labels offsets : List ℕ) : Type 0 where
   pub places : length offsets ≡ 1024
-  pub small : (w : ℕ) → w < junctionsOf s → getD offsets w 0 ≤ 1024
+  pub small : (w : ℕ) → w < junctionsOf labels → getD offsets w 0 ≤ 1024
 
 -- The highest junctions, down to depth d and there below v, stand at their offsets behind their parents, a root behind 0
-pub record Placed (s offsets spots : List ℕ) (d v : ℕ) : Type 0 where
+pub record Placed (labels offsets spots : List ℕ) (d v : ℕ) : Type 0 where
   pub places : length spots ≡ 1024
-  pub of-root : (w : ℕ) → w < junctionsOf s → Higher s d v w → parentAt s w ≡ noParent → getD spots w 0 ≡ getD offsets w 0
+  pub of-root : (w : ℕ) → w < junctionsOf labels → Higher labels d v w → parentAt labels w ≡ noParent → getD spots w 0 ≡ getD offsets w 0
   pub of-child :
       (w : ℕ) →
-      w < junctionsOf s →
-      Higher s d v w →
-      (parentAt s w ≡ noParent → ⊥) →
-      getD spots w 0 ≡ getD spots (parentAt s w) 0 + getD offsets w 0
-  pub small : (w : ℕ) → w < junctionsOf s → Higher s d v w → getD spots w 0 ≤ 1024 * (depthOf s w + 1)
+      w < junctionsOf labels →
+      Higher labels d v w →
+      (parentAt labels w ≡ noParent → ⊥) →
+      getD spots w 0 ≡ getD spots (parentAt labels w) 0 + getD offsets w 0
+  pub small : (w : ℕ) → w < junctionsOf labels → Higher labels d v w → getD spots w 0 ≤ 1024 * (depthOf labels w + 1)
 
 -- The spots of n junctions are below n, and no two are the same
 pub record Spread (n : ℕ) (spots : List ℕ) : Type 0 where

@@ -34,14 +34,14 @@ abbrev μ-loop : tie.MeasureT-loop
 number-of-requires : tie.Need-number-of-requires Inv-loop μ-loop
 number-of-requires c κs = own-index (c .before .before .pre .0)
 
-u16-at-requires : tie.Need-u16-at-requires Inv-loop μ-loop
-u16-at-requires c κs = count-inside (own-fits (c .before .before .before .pre .0) (c .number-of .ensures))
+count-at-requires : tie.Need-count-at-requires Inv-loop μ-loop
+count-at-requires c κs = count-inside (own-fits (c .before .before .before .pre .0) (c .number-of .ensures))
 
 cast-count : tie.Need-cast-count Inv-loop μ-loop
 cast-count c = search needs
 
-u32-at-requires : tie.Need-u32-at-requires Inv-loop μ-loop
-u32-at-requires c κs = header-inside (c .before .before .before .before .pre .0)
+roads-of-requires : tie.Need-roads-of-requires Inv-loop μ-loop
+roads-of-requires c κs = header-inside (c .before .before .before .before .pre .0)
 
 cast-roads : tie.Need-cast-roads Inv-loop μ-loop
 cast-roads c = search needs
@@ -64,9 +64,9 @@ road-agrees-requires c κs =
     let found = counted .before in
     let pre = found .before .before .before .pre in
     let so = turn .before .loop .inv in
-    let roads-are = begun .before .u32-at .ensures in
+    let roads-are = begun .before .roads-of .ensures in
     let taken = turn .loop-test .taken in
-    (road-input (pre .0) so (omega arith), (list-read (own-fits (pre .0) (found .number-of .ensures)) (counted .u16-at .ensures), so .marking .places))
+    (road-input (pre .0) so (omega arith), (list-read (own-fits (pre .0) (found .number-of .ensures)) (counted .count-at .ensures), so .marking .places))
 
 returns : tie.Need-returns Inv-loop μ-loop
 returns c =
@@ -84,7 +84,7 @@ next-road-requires c κs =
     let counted = begun .before .before in
     let found = counted .before in
     let pre = found .before .before .before .pre in
-    let roads-are = begun .before .u32-at .ensures in
+    let roads-are = begun .before .roads-of .ensures in
     let taken = turn .loop-test .taken in
     next-input (pre .0) (turn .before .loop .inv) (omega arith)
 
@@ -110,7 +110,7 @@ all-marked-requires c κs =
     let found = counted .before in
     let pre = found .before .before .before .pre in
     let short = own-fits (pre .0) (found .number-of .ensures) .short in
-    (turn .before .loop .inv .marking .places, omega (arith, counted .u16-at .ensures .is))
+    (turn .before .loop .inv .marking .places, omega (arith, counted .count-at .ensures .is))
 
 returns-2 : tie.Need-returns-2 Inv-loop μ-loop
 returns-2 c =
@@ -121,8 +121,8 @@ returns-2 c =
     let pre = found .before .before .before .pre in
     let so = turn .before .loop .inv in
     let place = own-place (pre .0) (found .number-of .ensures) in
-    let read = list-read (own-fits (pre .0) (found .number-of .ensures)) (counted .u16-at .ensures) in
-    let roads-are = begun .before .u32-at .ensures in
+    let read = list-read (own-fits (pre .0) (found .number-of .ensures)) (counted .count-at .ensures) in
+    let roads-are = begun .before .roads-of .ensures in
     let left = turn .loop-test .left in
     (agreed-end place read so (pre .1) (c .all-marked .ensures) (omega arith), agreed-unmarked place read so (pre .1) (c .all-marked .ensures))
 
@@ -133,9 +133,9 @@ list-agrees-spec =
     Inv-loop
     μ-loop
     number-of-requires
-    u16-at-requires
+    count-at-requires
     cast-count
-    u32-at-requires
+    roads-of-requires
     cast-roads
     first-road-requires
     loop-holds

@@ -41,7 +41,7 @@ cover-stored-requires c κs =
     let led = timed .before in
     let pre = led .before .before .before .pre in
     let time = timed .road-time .ensures .small in
-    let units = weighed .road-energy .ensures .small in
+    let energy = weighed .road-energy .ensures .small in
     let rest = neighbour-rest (pre .0) (led .other-end .ensures .is) (apart .if1 .left) (c .before .number-of .ensures) in
     (pre .1 .0, (rest .fits, ((omega arith, omega arith), pre .1 .1)))
 

@@ -16,8 +16,8 @@ abbrev μ-loop : tie.MeasureT-loop
 μ-loop labels at own own-count arc-time arc-energy marks₀ rest-count last-time next₀ j₀ marks next j =
     rest-count - j
 
-u16-at-requires : tie.Need-u16-at-requires Inv-loop μ-loop
-u16-at-requires c κs = count-inside (c .before .pre .1 .0)
+count-at-requires : tie.Need-count-at-requires Inv-loop μ-loop
+count-at-requires c κs = count-inside (c .before .pre .1 .0)
 
 cast-rest-count : tie.Need-cast-rest-count Inv-loop μ-loop
 cast-rest-count c = search needs
@@ -26,7 +26,7 @@ returns : tie.Need-returns Inv-loop μ-loop
 returns c =
     let counted = c .before in
     let pre = counted .before .before .pre in
-    merged-end (list-read (pre .1 .0) (counted .u16-at .ensures)) (merged-start (pre .1 .1 .1)) (omega arith)
+    merged-end (list-read (pre .1 .0) (counted .count-at .ensures)) (merged-start (pre .1 .1 .1)) (omega arith)
 
 sub-sum-time : tie.Need-sub-sum-time Inv-loop μ-loop
 sub-sum-time c = search needs
@@ -35,7 +35,7 @@ sum-time-requires : tie.Need-sum-time-requires Inv-loop μ-loop
 sum-time-requires c κs =
     let counted = c .before in
     let pre = counted .before .before .pre in
-    (pre .1 .0, (omega (arith, counted .u16-at .ensures .is), pre .1 .1 .0 .0))
+    (pre .1 .0, (omega (arith, counted .count-at .ensures .is), pre .1 .1 .0 .0))
 
 loop-holds : tie.Need-loop-holds Inv-loop μ-loop
 loop-holds c = merged-start (c .before .before .before .before .pre .1 .1 .1)
@@ -44,21 +44,21 @@ sum-time-requires-2 : tie.Need-sum-time-requires-2 Inv-loop μ-loop
 sum-time-requires-2 c κs =
     let counted = c .before .before .before .before in
     let pre = counted .before .before .pre in
-    (pre .1 .0, (omega (arith, counted .u16-at .ensures .is, c .loop-test .taken), pre .1 .1 .0 .0))
+    (pre .1 .0, (omega (arith, counted .count-at .ensures .is, c .loop-test .taken), pre .1 .1 .0 .0))
 
 sum-energy-requires : tie.Need-sum-energy-requires Inv-loop μ-loop
 sum-energy-requires c κs =
     let turn = c .before in
     let counted = turn .before .before .before .before in
     let pre = counted .before .before .pre in
-    (pre .1 .0, (omega (arith, counted .u16-at .ensures .is, turn .loop-test .taken), pre .1 .1 .0 .1))
+    (pre .1 .0, (omega (arith, counted .count-at .ensures .is, turn .loop-test .taken), pre .1 .1 .0 .1))
 
 cover-sum-requires : tie.Need-cover-sum-requires Inv-loop μ-loop
 cover-sum-requires c κs =
     let turn = c .before .before .before in
     let counted = turn .before .before .before .before in
     let pre = counted .before .before .pre in
-    let rest = list-read (pre .1 .0) (counted .u16-at .ensures) in
+    let rest = list-read (pre .1 .0) (counted .count-at .ensures) in
     let so = turn .before .loop .inv in
     (pre .0, (merged-behind rest so (turn .loop-test .taken) (c .before .sum-energy .ensures), so .marking .places))
 
@@ -69,7 +69,7 @@ returns-2 c =
     let turn = weighed .before .before in
     let counted = turn .before .before .before .before in
     let pre = counted .before .before .pre in
-    let rest = list-read (pre .1 .0) (counted .u16-at .ensures) in
+    let rest = list-read (pre .1 .0) (counted .count-at .ensures) in
     merged-refuse (pre .0) rest (turn .before .loop .inv) (turn .loop-test .taken) (weighed .before .sum-time2 .ensures) (weighed .sum-energy .ensures) (covered .cover-sum .ensures) (c .if2 .taken)
 
 time-at-requires : tie.Need-time-at-requires Inv-loop μ-loop
@@ -88,7 +88,7 @@ returns-3 c =
     let turn = weighed .before .before in
     let counted = turn .before .before .before .before in
     let pre = counted .before .before .pre in
-    let rest = list-read (pre .1 .0) (counted .u16-at .ensures) in
+    let rest = list-read (pre .1 .0) (counted .count-at .ensures) in
     merged-early (pre .0) rest (turn .before .loop .inv) (turn .loop-test .taken) (weighed .before .sum-time2 .ensures) (weighed .sum-energy .ensures) (covered .cover-sum .ensures)
     (c .before .before .before .if2 .left) (turn .before .before .sum-time .ensures) (c .before .before .time-at .ensures) (c .before .at-most .ensures) (c .if3 .taken)
 
@@ -111,14 +111,14 @@ loop-again c =
     let turn = weighed .before .before in
     let counted = turn .before .before .before .before in
     let pre = counted .before .before .pre in
-    let rest = list-read (pre .1 .0) (counted .u16-at .ensures) in
+    let rest = list-read (pre .1 .0) (counted .count-at .ensures) in
     merged-more (pre .0) rest (turn .before .loop .inv) (turn .loop-test .taken) (weighed .before .sum-time2 .ensures) (weighed .sum-energy .ensures) (covered .cover-sum .ensures) (c .before .before .before .if2 .left)
 
 returns-4 : tie.Need-returns-4 Inv-loop μ-loop
 returns-4 c =
     let counted = c .before .before .before .before in
     let pre = counted .before .before .pre in
-    merged-end (list-read (pre .1 .0) (counted .u16-at .ensures)) (c .before .loop .inv) (c .loop-test .left)
+    merged-end (list-read (pre .1 .0) (counted .count-at .ensures)) (c .before .loop .inv) (c .loop-test .left)
 
 pub cover-stored-spec : {M : Type 1} → statement M
 cover-stored-spec =
@@ -126,7 +126,7 @@ cover-stored-spec =
     (tie.spec
     Inv-loop
     μ-loop
-    u16-at-requires
+    count-at-requires
     cast-rest-count
     returns
     sub-sum-time

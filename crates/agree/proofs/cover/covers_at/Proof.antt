@@ -56,13 +56,13 @@ element-write-marks c = search needs
 returns-4 : tie.Need-returns-4
 returns-4 c =
     let covered = c .before .before .before .before in
-    let units = covered .before .before in
-    let quick = units .before in
+    let weighed = covered .before .before in
+    let quick = weighed .before in
     let read = quick .before .before in
     let inside = read .before in
     let pre = inside .before .before .pre in
     compared-covers (pre .0) _ (pre .1) (inside .if1 .left) (read .time-at .ensures) (ltb-false _ _ (sym (quick .before .below .ensures) ∙ quick .if2 .left))
-    (units .energy-at .ensures) (ltb-false _ _ (sym (covered .before .below2 .ensures) ∙ covered .if3 .left)) (c .before .before .equals .ensures) (c .before .equals2 .ensures) (c .mark-after .ensures)
+    (weighed .energy-at .ensures) (ltb-false _ _ (sym (covered .before .below2 .ensures) ∙ covered .if3 .left)) (c .before .before .equals .ensures) (c .before .equals2 .ensures) (c .mark-after .ensures)
 
 pub covers-at-spec : {M : Type 1} → statement M
 covers-at-spec =

@@ -18,8 +18,8 @@ use Rattle.exact.proofs.sweep.junction_agrees.Tie as tie
 
 -- the junction at spot i is on the map
 on-map :
-    {net s depths tables : List ℕ} {i u : ℕ} →
-    FilesFit net s × Tables net s depths tables → i < junctionsOf s → u ≡ junctionAt tables i → u < junctionsOf s
+    {net labels depths tables : List ℕ} {i u : ℕ} →
+    FilesFit net labels × Tables net labels depths tables → i < junctionsOf labels → u ≡ junctionAt tables i → u < junctionsOf labels
 on-map input inside u-is = swept-on-map (input .0 .formed) (input .1 .numbered) inside u-is refl
 
 add-entry-at : tie.Need-add-entry-at

@@ -7,11 +7,11 @@ use Rattle.exact.proofs.sweep.move_on.Statement.{statement}
 use Rattle.exact.proofs.sweep.move_on.Tie as tie
 
 abbrev Inv-loop : tie.InvT-loop
-Inv-loop labels tables u from to places₀ i₀ places i =
-    (i ≤ to) × Moving labels tables from i places₀ places
+Inv-loop labels tables u from to places₀ spot₀ places spot =
+    (spot ≤ to) × Moving labels tables from spot places₀ places
 
 abbrev μ-loop : tie.MeasureT-loop
-μ-loop labels tables u from to places₀ i₀ places i = to - i
+μ-loop labels tables u from to places₀ spot₀ places spot = to - spot
 
 loop-holds : tie.Need-loop-holds Inv-loop μ-loop
 loop-holds c = (c .before .pre .1 .0 .forward, moving-none (c .before .pre .1 .1 .places-length))
@@ -65,8 +65,8 @@ element-write-places c =
       pre .0 .parents .few-junctions,
     )
 
-add-i : tie.Need-add-i Inv-loop μ-loop
-add-i c = search needs
+add-spot : tie.Need-add-spot Inv-loop μ-loop
+add-spot c = search needs
 
 loop-less : tie.Need-loop-less Inv-loop μ-loop
 loop-less c = search needs
@@ -95,7 +95,7 @@ move-on-spec =
     cast-places
     mul-places
     element-write-places
-    add-i
+    add-spot
     loop-less
     loop-again
     returns)

@@ -16,8 +16,8 @@ Inv-loop net tables₀ roads k₀ tables k = (k ≤ roadsOf net) × GroupedFrom 
 abbrev μ-loop : tie.MeasureT-loop
 μ-loop net tables₀ roads k₀ tables k = k
 
-u32-at-requires : tie.Need-u32-at-requires Inv-loop μ-loop
-u32-at-requires c κs = search needs
+roads-of-requires : tie.Need-roads-of-requires Inv-loop μ-loop
+roads-of-requires c κs = search needs
 
 clear-firsts-requires : tie.Need-clear-firsts-requires Inv-loop μ-loop
 clear-firsts-requires c κs = search needs
@@ -28,7 +28,7 @@ cast-k c = search needs
 loop-holds : tie.Need-loop-holds Inv-loop μ-loop
 loop-holds c =
     let start = c .before .before .before .before in
-    (omega arith, grouped-none (start .pre .0) (c .before .before .u32-at .ensures) (c .clear-firsts .ensures), stays-all firstsFrom _)
+    (omega arith, grouped-none (start .pre .0) (c .before .before .roads-of .ensures) (c .clear-firsts .ensures), stays-all firstsFrom _)
 
 sub-k : tie.Need-sub-k Inv-loop μ-loop
 sub-k c = search needs
@@ -54,7 +54,7 @@ group-roads-spec =
     (tie.spec
     Inv-loop
     μ-loop
-    u32-at-requires
+    roads-of-requires
     clear-firsts-requires
     cast-k
     loop-holds
