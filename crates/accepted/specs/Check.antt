@@ -8,7 +8,7 @@ use Rattle.files.specs.LabelForm.{labelsNumber}
 use Rattle.stored.specs.Right.{EveryListRight}
 
 module _ (net labels : List ℕ) (number : ℕ) where
-  -- The network's number, then the labels', then 18 exactly if some list is not right
+  -- The network's number, then the labels', then 18 exactly if some list is not right (SCOPE 4.3, 4.4)
   pub data Checked : Type 0 where
     network-refused : (netNumber versionOne net ≡ 0 → ⊥) → number ≡ netNumber versionOne net → Checked
     labels-refused : netNumber versionOne net ≡ 0 → (labelsNumber versionOne net labels ≡ 0 → ⊥) → number ≡ labelsNumber versionOne net labels → Checked

@@ -5,6 +5,7 @@ use Rattle.accepted.specs.declared.ListAnswer.{ListAnswer}
 use Rattle.accepted.specs.declared.ListAnswer.the-variants as case
 use Rattle.accepted.specs.Check.{Checked, CheckRefused}
 
+-- The number (SCOPE 4.1, 4.2)
 abbrev pub listNumberOf : ListAnswer → ℕ
 listNumberOf (case.Listed count) = 0
 listNumberOf (case.NotAccepted number) = number
@@ -12,6 +13,7 @@ listNumberOf case.OffMap = 21
 listNumberOf case.NotConnected = 22
 listNumberOf case.NoRoom = 24
 
+-- The count of the entries (SCOPE 5.4, 4.1)
 abbrev pub listCountOf : ListAnswer → ℕ
 listCountOf (case.Listed count) = count
 listCountOf (case.NotAccepted number) = 0

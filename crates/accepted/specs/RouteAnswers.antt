@@ -5,6 +5,7 @@ use Rattle.accepted.specs.declared.RouteAnswer.{RouteAnswer}
 use Rattle.accepted.specs.declared.RouteAnswer.the-variants as case
 use Rattle.accepted.specs.Check.{Checked, CheckRefused}
 
+-- The number (SCOPE 4.1, 4.2)
 abbrev pub routeNumberOf : RouteAnswer → ℕ
 routeNumberOf (case.Routed time energy count) = 0
 routeNumberOf (case.NotAccepted number) = number
@@ -13,6 +14,7 @@ routeNumberOf case.NotConnected = 22
 routeNumberOf case.OverLimit = 23
 routeNumberOf case.NoRoom = 24
 
+-- The time of the best pair (SCOPE 5.3, 4.1)
 abbrev pub routeTimeOf : RouteAnswer → ℕ
 routeTimeOf (case.Routed time energy count) = time .0
 routeTimeOf (case.NotAccepted number) = 0
@@ -21,6 +23,7 @@ routeTimeOf case.NotConnected = 0
 routeTimeOf case.OverLimit = 0
 routeTimeOf case.NoRoom = 0
 
+-- The energy of the best pair (SCOPE 5.3, 4.1)
 abbrev pub routeEnergyOf : RouteAnswer → ℕ
 routeEnergyOf (case.Routed time energy count) = energy .0
 routeEnergyOf (case.NotAccepted number) = 0
@@ -29,6 +32,7 @@ routeEnergyOf case.NotConnected = 0
 routeEnergyOf case.OverLimit = 0
 routeEnergyOf case.NoRoom = 0
 
+-- The count of the route's junctions (SCOPE 5.3, 4.1)
 abbrev pub routeCountOf : RouteAnswer → ℕ
 routeCountOf (case.Routed time energy count) = count
 routeCountOf (case.NotAccepted number) = 0

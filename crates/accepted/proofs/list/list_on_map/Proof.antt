@@ -10,7 +10,7 @@ list-count-requires : tie.Need-list-count-requires
 list-count-requires c κs = search needs
 
 returns : tie.Need-returns
-returns c = search (list-apart)
+returns c = (search (list-apart), search needs)
 
 shorter-requires : tie.Need-shorter-requires
 shorter-requires c κs = search needs
@@ -19,7 +19,7 @@ cast-if2 : tie.Need-cast-if2
 cast-if2 c = search needs
 
 returns-2 : tie.Need-returns-2
-returns-2 c = search (list-too-long)
+returns-2 c = (search (list-too-long), search needs)
 
 list-fill-requires : tie.Need-list-fill-requires
 list-fill-requires c κs =

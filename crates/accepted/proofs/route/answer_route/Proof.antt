@@ -31,16 +31,16 @@ same-length : tie.Need-same-length
 same-length c = search needs
 
 returns : tie.Need-returns
-returns c = search (answered-found)
+returns c = (search (answered-found), search needs)
 
 returns-2 : tie.Need-returns-2
-returns-2 c = search (answered-off-map)
+returns-2 c = (search (answered-off-map), search needs)
 
 returns-3 : tie.Need-returns-3
-returns-3 c = search (answered-not-connected)
+returns-3 c = (search (answered-not-connected), search needs)
 
 returns-4 : tie.Need-returns-4
-returns-4 c = search (answered-over-limit)
+returns-4 c = (search (answered-over-limit), search needs)
 
 pub answer-route-spec : {M : Type 1} → statement M
 answer-route-spec =

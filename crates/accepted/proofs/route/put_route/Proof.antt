@@ -8,7 +8,7 @@ route-requires : tie.Need-route-requires
 route-requires c κs = (search needs, (search needs, (search needs, (search needs, search needs))))
 
 returns : tie.Need-returns
-returns c = search (route-too-long)
+returns c = (search (route-too-long), search needs)
 
 fill-first-requires : tie.Need-fill-first-requires
 fill-first-requires c κs = search needs
@@ -20,7 +20,7 @@ same-length : tie.Need-same-length
 same-length c = search needs
 
 returns-2 : tie.Need-returns-2
-returns-2 c = search (route-put)
+returns-2 c = (search (route-put), search needs)
 
 pub put-route-spec : {M : Type 1} → statement M
 put-route-spec =
