@@ -16,7 +16,7 @@ use Rattle.bytes.specs.working.Reads.{Read16}
 use Rattle.network.proofs.Arcs.{network-finite}
 use Rattle.lists.specs.Entries.{Weight}
 use Rattle.query.specs.working.Prepared.{Prepared}
-use Rattle.routes.specs.working.Written.{ListWritten}
+use Rattle.tradeoffs.specs.working.Written.{ListWritten}
 use Rattle.accepted.specs.List.{ListAnswered, off-map, not-connected, no-room, listed}
 
 -- a list with an entry is not empty

@@ -1,8 +1,8 @@
 // Trade-off list on an accepted set: the entries are counted before the first is written, so that a refusal changes nothing lent.
 use crate::ListAnswer;
 use network::header::junctions_of;
-use routes::list::list_count;
-use routes::list::list_fill;
+use tradeoffs::list::list_count;
+use tradeoffs::list::list_fill;
 ghost use mathlib.Core.Path.{_≡_};
 ghost use Prim.Native.Nat.{_<_, min};
 ghost use Rattle.network.specs.NetworkFile.{junctionsOf};

@@ -23,7 +23,7 @@ use Rattle.network.specs.working.Fits.{NetworkFits}
 use Rattle.network.proofs.Arcs.{one-weight}
 use Rattle.network.proofs.RoadsAt.{nextRoad-low, nextRoad-touches, nextRoad-passed, touches-arc, arc-touches, others-rise}
 use Rattle.refusals.specs.working.Decides.{Decides}
-use Rattle.routes.specs.working.Reach.{PathWithin}
+use Rattle.reaching.specs.working.Reach.{PathWithin}
 use Rattle.routes.specs.working.Steps.{StepFits, StepRoad}
 
 -- ---- What is left after a road

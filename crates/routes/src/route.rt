@@ -1,6 +1,5 @@
 // The first route of an unbeaten pair, junction by junction: at each junction the first road in file order after which the rest of the pair
 // can still be spent.
-use super::reach::reaches;
 use bytes::u32_at;
 use network::roads::first_road;
 use network::roads::next_road;
@@ -9,6 +8,7 @@ use network::roads::road_energy;
 use network::roads::road_time;
 use paths::energy::Energy;
 use paths::seconds::Seconds;
+use reaching::reach::reaches;
 ghost use mathlib.Core.Path.{_≡_};
 ghost use mathlib.Core.Bool.{true};
 ghost use Prim.Native.Nat.{_-_, _≤_, _<_};
@@ -19,7 +19,7 @@ ghost use Rattle.network.specs.NetworkFile.{junctionsOf, roadsOf, networkOf};
 ghost use Rattle.network.specs.working.Roads.{touches, Grouped};
 ghost use Rattle.refusals.specs.working.Decides.{Decides};
 ghost use Rattle.query.specs.working.Prepared.{Prepared};
-ghost use Rattle.routes.specs.working.Searched.{Held};
+ghost use Rattle.reaching.specs.working.Searched.{Held};
 ghost use Rattle.routes.specs.working.Steps.{StepFits, StepRoad};
 ghost use Rattle.routes.specs.working.Written.{RouteFound};
 

@@ -6,7 +6,7 @@ use Prim.Native.Nat.{ℕ, _-_, _≤_, _<_}
 use Rattle.paths.specs.Weights.{pair}
 use Rattle.network.specs.NetworkFile.{roadsOf, roadTime, roadEnergy}
 use Rattle.network.specs.working.Roads.{touches, otherEnd}
-use Rattle.routes.specs.working.Reach.{PathWithin}
+use Rattle.reaching.specs.working.Reach.{PathWithin}
 
 -- Road k fits into (time, units), and a path from its other end to y fits into the rest
 pub record StepFits (net : List ℕ) (x y k time units : ℕ) : Type 0 where

@@ -1,8 +1,8 @@
 -- What is written so far, with the first route of the rest behind it, is the first route of the whole; at y nothing is left.
 use native.Mathlib.Omega.{arith}
 use lib.ListN.{length-set}
-use Rattle.routes.specs.working.Searched.{Held}
-use Rattle.routes.proofs.Reaching.{held-none}
+use Rattle.reaching.specs.working.Searched.{Held}
+use Rattle.reaching.proofs.Reaching.{held-none}
 use Rattle.routes.proofs.RouteWay.{OnWay, way-start, way-room, way-more, way-less, way-end}
 use borrow.Author.Needs.{needs}
 use Rattle.routes.proofs.route.route.Statement.{statement}

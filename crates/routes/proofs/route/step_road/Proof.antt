@@ -1,7 +1,7 @@
 -- No road of the junction before k fits; the pair is a path's, so the search ends at a road that does.
 use Prim.Native.Nat.{_-_}
 use native.Mathlib.Omega.{arith}
-use Rattle.routes.specs.working.Searched.{Held}
+use Rattle.reaching.specs.working.Searched.{Held}
 use Rattle.routes.proofs.RouteSteps.{RoadSearch, search-start, search-more, search-later, search-found, search-never, road-follows}
 use borrow.Author.Needs.{needs}
 use Rattle.routes.proofs.route.step_road.Statement.{statement}

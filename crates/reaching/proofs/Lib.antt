@@ -1,0 +1,4 @@
+-- Why what the search finds is what the paths have. Read in this order.
+pub mod Climbing
+pub mod Searching
+pub mod Reaching

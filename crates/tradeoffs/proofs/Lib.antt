@@ -1,0 +1,3 @@
+-- Why a list is whole. Read in this order.
+pub mod NotingLaws
+pub mod ListSteps
