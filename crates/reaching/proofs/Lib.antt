@@ -1,4 +1,3 @@
 -- Why what the search finds is what the paths have. Read in this order.
-pub mod Climbing
 pub mod Searching
 pub mod Reaching

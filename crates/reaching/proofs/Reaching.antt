@@ -1,115 +1,66 @@
--- What the search finds is what the paths have: two junctions meet at one of them, above both, or nowhere.
+-- What the search finds is what the paths have: two junctions have one list between them, two for each common ancestor, or none.
 -- In this order: the marks that are held; where the lists of two junctions stand; what the paths have.
-use mathlib.Core.Path.{_≡_, refl, sym, ap, _∙_, subst}
+use mathlib.Core.Path.{_≡_, ap, _∙_}
 use mathlib.Core.Bool.{Bool, true, false}
 use mathlib.Core.List.{List}
 use Prim.Native.Nat.{ℕ, suc, _+_, _-_, _≤_, _<_}
 use native.Mathlib.Omega.{arith}
 use lib.ListN.{length}
 use Rattle.paths.specs.Network.{stay, weight}
-use Rattle.paths.specs.Forest.{Above, Common}
+use Rattle.paths.specs.Forest.{Common}
 use Rattle.paths.proofs.Crossing.{apart-without-common}
 use Rattle.network.specs.NetworkFile.{junctionsOf}
 use Rattle.lists.specs.Entries.{Weight}
 use Rattle.refusals.specs.working.Decides.{Decides}
 use Rattle.forest.specs.LabelFile.{parentsOf}
 use Rattle.forest.specs.Forest.{depthOf}
+use Rattle.forest.specs.working.Fits.{ParentsFit}
 use Rattle.forest.proofs.Forest.{above-shallower}
-use Rattle.stored.specs.Stored.{listsBefore, placeOf, listAt, stored}
-use Rattle.stored.specs.working.Formed.{Formed, ListFits}
+use Rattle.stored.specs.Stored.{listsBefore, placeOf, listAt}
 use Rattle.stored.specs.working.Scanned.{further}
 use Rattle.stored.proofs.Places.{further-place}
 use Rattle.stored.proofs.Passed.{parents-forest, roads-joined}
 use Rattle.hoplinks.specs.working.Meeting.{HopMarks}
 use Rattle.query.specs.working.Prepared.{Prepared}
 use Rattle.query.specs.working.AnswerFrom.{EntryOf}
-use Rattle.query.specs.working.Levels.{behind, MarkedSum, Branches}
+use Rattle.query.specs.working.Between.{ListBetween, ListsBetween}
+use Rattle.query.specs.working.Levels.{behind, MarkedSum}
+use Rattle.query.proofs.WholeAnswers.{StandsFor, tradeOff-stands, marked-stands, list-between-right}
 use Rattle.reaching.specs.working.Reach.{PathWithin}
-use Rattle.reaching.specs.working.Searched.{HasWithin, ListsUp, SumUp, Held}
-use Rattle.reaching.specs.declared.climb.Met.{Met}
-use Rattle.reaching.specs.declared.climb.Met.the-variants.{At, Nowhere}
-use Rattle.reaching.specs.working.Climbing.{MeetsWith, MetWithLists}
-use Rattle.query.proofs.MarkedSums.{level-place, level-fits}
-use Rattle.query.proofs.WholeAnswers.{StandsFor, proper, tradeOff-stands, stored-up, stored-down, marked-stands, meets-start, meets-finish}
+use Rattle.reaching.specs.working.Searched.{HasWithin, SumUp, Held}
 use Rattle.reaching.proofs.Searching.{not-both, found-yes}
 
 -- ---- The marks that are held
 
-module _ {net s : List ℕ} {l held : ℕ} {marks : List ℕ} where
+module _ {net labels : List ℕ} {l held : ℕ} {marks : List ℕ} where
   -- those of l
-  pub held-same : l < junctionsOf s → Held net s held marks → held ≡ l → HopMarks net s l marks
+  pub held-same : l < junctionsOf labels → Held net labels held marks → held ≡ l → HopMarks net labels l marks
   held-same on-map now e = rw e at (now .kept (omega arith))
 
   -- marked anew
-  pub held-new : HopMarks net s l marks → held ≡ l → Held net s held marks
+  pub held-new : HopMarks net labels l marks → held ≡ l → Held net labels held marks
   held-new hops e = record { places = hops .marks-length; kept = λ h. rw e hops }
 
 -- none at first
-pub held-none : {net s marks : List ℕ} {held : ℕ} → length marks ≡ 1024 → junctionsOf s ≤ held → Held net s held marks
+pub held-none : {net labels marks : List ℕ} {held : ℕ} → length marks ≡ 1024 → junctionsOf labels ≤ held → Held net labels held marks
 held-none places h = record { places = places; kept = λ g. absurd (omega arith) }
 
 -- ---- Where the lists of two junctions stand
 
 -- a junction of the network is one of the labels
-pub on-labels : {net s depths tables : List ℕ} {v : ℕ} → Prepared net s depths tables → v < junctionsOf net → v < junctionsOf s
+pub on-labels : {net labels depths tables : List ℕ} {v : ℕ} → Prepared net labels depths tables → v < junctionsOf net → v < junctionsOf labels
 on-labels prepared h = omega (arith, prepared .beside .one-map)
 
--- the answer told: where they meet, or nowhere
-module _ (s : List ℕ) (x y : ℕ) where
-  pub told-at : {l near far : ℕ} {r : Met} → r ≡ At l near far → MetWithLists s x y r → MeetsWith s x y l near far
-  told-at e h = subst (MetWithLists s x y) e h
+-- a level has a mark
+pub levels-marked : {labels : List ℕ} {x y near far levels meeting : ℕ} → ParentsFit labels → ListsBetween labels x y near far levels meeting → levels ≤ 1024
+levels-marked {meeting = meeting} fit two = omega (arith, two .deep, fit .ends meeting (two .meets .on-map), fit .few-junctions)
 
-  pub told-nowhere : {r : Met} → r ≡ Nowhere → MetWithLists s x y r → (u : ℕ) → Common (parentsOf s) x y u → ⊥
-  told-nowhere e h = subst (MetWithLists s x y) e h
-
-module _ {s : List ℕ} (formed : Formed s) {v depth at : ℕ} (on-map : v < junctionsOf s) (deep : depth < depthOf s v) (e : at ≡ behind s v (suc depth)) where
-  -- the lists of v for its ancestor at that depth, and for those above, stand one behind the other
-  levels-behind : (k level : ℕ) → k + level ≡ depth → further s at k ≡ behind s v (suc level)
-  levels-behind k level h =
-      ap (λ a. further s a k) e ∙ further-place s (listsBefore s v + (depthOf s v - suc depth)) k ∙ ap (placeOf s) (omega arith)
-
-  -- so all of them fit
-  lists-up : ListsUp s at depth
-  lists-up = record { fits = λ k h. rw (levels-behind k (depth - k) (omega arith)) (level-fits formed on-map (omega arith)) }
-
--- The list of v for its ancestor u is at byte `at`
-pub record ListTo (s : List ℕ) (v u at : ℕ) : Type 0 where
-  pub above : Above (parentsOf s) u v
-  pub place : at ≡ behind s v (suc (depthOf s u))
-
--- it is the stored one
-list-stored : {s : List ℕ} {v u at : ℕ} → ListTo s v u at → listAt s at ≡ stored s v u
-unfolding stored
-list-stored {s} {v} {u} list = ap (listAt s) (list .place ∙ sym (level-place s v u refl))
-
--- and it fits
-pub list-fits : {s : List ℕ} {v u at : ℕ} → Formed s → v < junctionsOf s → ListTo s v u at → ListFits s at
-list-fits {s} formed on-map list = rw (list .place) (level-fits formed on-map (above-shallower s (formed .parents .ends) (list .above)))
-
-module _ {s : List ℕ} (formed : Formed s) {x y l near far : ℕ} (met : MeetsWith s x y l near far) (apart : x ≡ y → ⊥) where
-  -- they meet at one of the two: the other has a list for it
-  pub met-start : l ≡ x → ListTo s y x far
-  met-start e =
-      let above = meets-start (met .meets) e apart in
-      record { above = above; place = rw e at (met .far-place (rw e (above-shallower s (formed .parents .ends) above))) }
-
-  pub met-finish : l ≡ y → ListTo s x y near
-  met-finish e =
-      let above = meets-finish (met .meets) e apart in
-      record { above = above; place = rw e at (met .near-place (rw e (above-shallower s (formed .parents .ends) above))) }
-
-module _ {s : List ℕ} (formed : Formed s) {x y l near far depth : ℕ} (met : MeetsWith s x y l near far) (branches : Branches s x y l)
-    (e : depth ≡ depthOf s l) where
-  -- they meet above both: each has lists for that junction and for all above it
-  pub near-lists : ListsUp s near depth
-  near-lists = rw e (lists-up formed (branches .x-on-map) (branches .below-x) (met .near-place (branches .below-x)))
-
-  pub far-lists : ListsUp s far depth
-  far-lists = rw e (lists-up formed (branches .y-on-map) (branches .below-y) (met .far-place (branches .below-y)))
-
-  -- a depth has a mark
-  pub depth-mark : depth < 1024
-  depth-mark = omega (arith, formed .parents .ends l (branches .l-on-map), formed .parents .few-junctions)
+-- the list `up` behind the first of a junction is that for the level so many above
+level-behind :
+    (labels : List ℕ) (v : ℕ) {at levels : ℕ} → at ≡ behind labels v levels → levels ≤ depthOf labels v → (up level : ℕ) → up + suc level ≡ levels →
+    further labels at up ≡ behind labels v (suc level)
+level-behind labels v {levels = levels} e deep up level h =
+    ap (λ a. further labels a up) e ∙ further-place labels (listsBefore labels v + (depthOf labels v - levels)) up ∙ ap (placeOf labels) (omega arith)
 
 -- ---- What the paths have
 
@@ -133,62 +84,62 @@ pub reach-itself : {net : List ℕ} {x y : ℕ} {p : Weight} → x ≡ y → Dec
 unfolding weight
 reach-itself e = found-yes (rw (← e) (record { walk = stay; no-larger = (omega arith, omega arith) }))
 
-module _ {net s depths tables : List ℕ} (prepared : Prepared net s depths tables) {x y : ℕ} {p : Weight} where
+module _ {net labels depths tables : List ℕ} (prepared : Prepared net labels depths tables) {x y : ℕ} {p : Weight} where
   -- junctions of different trees
-  pub reach-apart : ((u : ℕ) → Common (parentsOf s) x y u → ⊥) → Decides (PathWithin net x y p) false
+  pub reach-apart : ((u : ℕ) → Common (parentsOf labels) x y u → ⊥) → Decides (PathWithin net x y p) false
   reach-apart none =
       record {
         holds = λ q. not-both q;
-        fails = λ q path. apart-without-common (parentsOf s) (roads-joined (prepared .beside)) (parents-forest (prepared .beside)) none (path .walk);
+        fails = λ q path. apart-without-common (parentsOf labels) (roads-joined (prepared .beside)) (parents-forest (prepared .beside)) none (path .walk);
       }
 
   module _ {answer : Bool} where
     -- a junction and one above it, either way round
-    pub reach-up : {at : ℕ} → ListTo s x y at → Decides (HasWithin (EntryOf (listAt s at)) p) answer → Decides (PathWithin net x y p) answer
-    reach-up list decides = stands-decides (tradeOff-stands (rw (list-stored list) (stored-up prepared (list .above)))) decides
-
-    pub reach-down : {at : ℕ} → ListTo s y x at → Decides (HasWithin (EntryOf (listAt s at)) p) answer → Decides (PathWithin net x y p) answer
-    reach-down list decides = stands-decides (tradeOff-stands (rw (list-stored list) (stored-down prepared (list .above)))) decides
+    pub reach-list : {at : ℕ} → ListBetween labels x y at → Decides (HasWithin (EntryOf (listAt labels at)) p) answer → Decides (PathWithin net x y p) answer
+    reach-list one decides = stands-decides (tradeOff-stands (list-between-right prepared one)) decides
 
     -- two branches
     pub reach-across :
-        {l near far depth : ℕ} {marks : List ℕ} → MeetsWith s x y l near far → Branches s x y l → depth ≡ depthOf s l → (l ≡ x → ⊥) → (l ≡ y → ⊥) →
-        HopMarks net s l marks → Decides (HasWithin (SumUp s marks near far depth 0) p) answer → Decides (PathWithin net x y p) answer
-    reach-across {l} {near} {far} {marks = marks} met branches e not-x not-y hops decides = stands-decides stands (rw e at decides)
+        {near far levels meeting : ℕ} {marks : List ℕ} → ListsBetween labels x y near far levels meeting → HopMarks net labels meeting marks →
+        Decides (HasWithin (SumUp labels marks near far levels levels) p) answer → Decides (PathWithin net x y p) answer
+    reach-across {near} {far} {levels} {meeting} {marks} two hops decides = stands-decides stands decides
       where
-        near-at : (level : ℕ) → level ≤ depthOf s l → further s near (depthOf s l - level) ≡ behind s x (suc level)
-        near-at level h = levels-behind (prepared .beside .formed) (branches .x-on-map) (branches .below-x) (met .near-place (branches .below-x)) (depthOf s l - level) level (omega arith)
+        ends : ParentsFit labels
+        ends = prepared .beside .formed .parents
 
-        far-at : (level : ℕ) → level ≤ depthOf s l → further s far (depthOf s l - level) ≡ behind s y (suc level)
-        far-at level h = levels-behind (prepared .beside .formed) (branches .y-on-map) (branches .below-y) (met .far-place (branches .below-y)) (depthOf s l - level) level (omega arith)
+        near-at : (up level : ℕ) → up + suc level ≡ levels → further labels near up ≡ behind labels x (suc level)
+        near-at up level h = level-behind labels x (two .near-is) (omega (arith, two .deep, above-shallower labels (ends .ends) (two .below-x))) up level h
 
-        marked : StandsFor net x y (MarkedSum s marks x y 0 (suc (depthOf s l)))
-        marked =
-            marked-stands prepared (proper not-x (met .meets .deepest .common .of-start)) (proper not-y (met .meets .deepest .common .of-finish)) (met .meets .deepest) (met .meets .on-map) hops
+        far-at : (up level : ℕ) → up + suc level ≡ levels → further labels far up ≡ behind labels y (suc level)
+        far-at up level h = level-behind labels y (two .far-is) (omega (arith, two .deep, above-shallower labels (ends .ends) (two .below-y))) up level h
+
+        marked : StandsFor net x y (MarkedSum labels marks x y 0 (suc (depthOf labels meeting)))
+        marked = marked-stands prepared (two .below-x) (two .below-y) (two .meets .deepest) (two .meets .on-map) hops
 
         -- the sums at the marked levels, by the places of their lists
-        stands : StandsFor net x y (SumUp s marks near far (depthOf s l) 0)
+        stands : StandsFor net x y (SumUp labels marks near far levels levels)
         stands =
             record {
               real = λ h.
+                  let adds : h .up + suc (levels - h .up - 1) ≡ levels = omega (arith, h .below) in
                   marked .real (
                   record {
-                    level = h .level;
-                    not-below = h .not-below;
-                    not-above = omega (arith, h .not-above);
-                    here = rw (near-at (h .level) (h .not-above), far-at (h .level) (h .not-above)) at (h .here);
+                    level = levels - h .up - 1;
+                    not-below = omega arith;
+                    not-above = omega (arith, h .below, two .deep);
+                    here = rw (near-at (h .up) (levels - h .up - 1) adds, far-at (h .up) (levels - h .up - 1) adds) at (h .here);
                   });
               below = λ w.
                   let z = marked .below w in
-                  let low : z .among .level ≤ depthOf s l = omega (arith, z .among .not-above) in
+                  let adds : (levels - z .among .level - 1) + suc (z .among .level) ≡ levels = omega (arith, z .among .not-above, two .deep) in
+                  let back : levels - (levels - z .among .level - 1) - 1 ≡ z .among .level = omega (arith, z .among .not-above, two .deep) in
                   record {
                     one = z .one;
                     among =
                         record {
-                          level = z .among .level;
-                          not-below = z .among .not-below;
-                          not-above = low;
-                          here = rw (near-at (z .among .level) low, far-at (z .among .level) low) (z .among .here);
+                          up = levels - z .among .level - 1;
+                          below = omega (arith, z .among .not-above, two .deep);
+                          here = rw (back, near-at (levels - z .among .level - 1) (z .among .level) adds, far-at (levels - z .among .level - 1) (z .among .level) adds) (z .among .here);
                         };
                     no-larger = z .no-larger;
                   };

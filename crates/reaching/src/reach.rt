@@ -1,77 +1,62 @@
 // Whether a path takes no more than a pair in either figure: what the route's step asks. Stored lists are read where they stand.
-use super::climb::Met;
-use super::climb::meet;
-use bytes::u16_at;
 use hoplinks::hoplinks::mark_hoplinks;
 use paths::energy::Energy;
 use paths::seconds::Seconds;
+use query::Between;
+use query::Pair;
+use query::climbing::between;
+use query::places::count_at;
+use query::places::fitting;
+use query::places::fitting_from;
 use stored::place::Place;
-use stored::place::number_of;
 use stored::stored::energy_at;
 use stored::stored::time_at;
 ghost use mathlib.Core.Path.{_≡_};
 ghost use mathlib.Core.Bool.{false};
 ghost use Prim.Native.Nat.{_≤_, _<_};
-ghost use lib.ListN.{length};
-ghost use Rattle.paths.specs.Weights.{pair};
 ghost use Rattle.network.specs.NetworkFile.{junctionsOf};
 ghost use Rattle.refusals.specs.working.Decides.{Decides};
 ghost use Rattle.forest.specs.LabelFile.{countAt};
-ghost use Rattle.stored.specs.ListForm.{mostBytes, mostFigure};
 ghost use Rattle.stored.specs.Stored.{listAt};
 ghost use Rattle.forest.specs.working.Fits.{DepthsFilled};
 ghost use Rattle.stored.specs.working.Formed.{ListFits, FilesFit};
 ghost use Rattle.hoplinks.specs.working.Meeting.{HopMarks};
 ghost use Rattle.query.specs.working.Prepared.{Prepared};
 ghost use Rattle.query.specs.working.AnswerFrom.{EntryOf};
-ghost use Rattle.reaching.specs.working.Reach.{PathWithin};
-ghost use Rattle.reaching.specs.working.Searched.{HasWithin, ListsUp, SumUp, FittingFrom, CoversAt, NoSum, Asked, Held};
+ghost use Rattle.query.specs.working.Levels.{LevelSum};
+ghost use Rattle.query.specs.working.Sums.{RowFits};
+ghost use Rattle.reaching.specs.working.Reach.{PathWithin, weightOf};
+ghost use Rattle.reaching.specs.working.Searched.{HasWithin, SumUp, CoversAt, NoSum, Tried, Held};
 
-fn wide(x: u32) -> usize
-    ensures { λ r. ⌜ r ≡ x ⌝ }
-{
-    x as usize
+// Behind the last junction that a network can have: as long as it is held, no hoplinks are marked.
+pub const NONE_HELD: usize = 1024;
+
+// Two junctions, of which paths lead from the first to the second.
+pub struct Ends {
+    pub from: usize,
+    pub to: usize,
 }
 
-// Down from `from`, past the entries of the list at a byte that do not fit beside so much energy.
-fn fitting(labels: &[u8], at: usize, beside: Energy, units: Energy, from: usize) -> usize
+// Whether an entry of the list at a byte takes no more than the pair: of those that fit the last is the quickest.
+fn list_reaches(labels: &[u8], at: usize, most: Pair) -> bool
     requires { ⌜ ListFits (now labels) at ⌝ }
-    requires { ⌜ (beside .0 ≤ mostFigure) × (from ≤ countAt (now labels) at) ⌝ }
-    ensures { λ r. ⌜ FittingFrom (now (labels .entry)) at (beside .0) (units .0) from r ⌝ }
+    ensures { λ r. ⌜ Decides (HasWithin (EntryOf (listAt (now (labels .entry)) at)) (weightOf most)) r ⌝ }
 {
-    let mut j = from;
-    while j > 0 {
-        let last = energy_at(labels, at, j - 1);
-        let sum = beside.plus(last);
-        if sum.at_most(units) {
-            return j;
-        }
-        j -= 1;
-    }
-    j
-}
-
-// Whether an entry of the list at a byte takes no more than (time, units): of those that fit the last is the quickest.
-fn list_reaches(labels: &[u8], at: usize, time: Seconds, units: Energy) -> bool
-    requires { ⌜ ListFits (now labels) at ⌝ }
-    ensures { λ r. ⌜ Decides (HasWithin (EntryOf (listAt (now (labels .entry)) at)) (pair (time .0) (units .0))) r ⌝ }
-{
-    let count = wide(u16_at(labels, at));
-    let j = fitting(labels, at, Energy(0), units, count);
+    let j = fitting(labels, at, Energy(0), most.energy);
     if j == 0 {
         return false;
     }
     let last = time_at(labels, at, j - 1);
-    last.at_most(time)
+    last.at_most(most.time)
 }
 
-// Whether a sum of entries of two lists may take no more than (time, units): their least energies do, and their least times do.
-fn may_cover(labels: &[u8], near: usize, far: usize, time: Seconds, units: Energy) -> bool
+// Whether a sum of entries of two lists may take no more than the pair: their least energies do, and their least times do.
+fn may_cover(labels: &[u8], near: usize, far: usize, most: Pair) -> bool
     requires { ⌜ ListFits (now labels) near × ListFits (now labels) far ⌝ }
-    ensures { λ r. ⌜ (r ≡ false → NoSum (now (labels .entry)) near far (time .0) (units .0) 0) ⌝ }
+    ensures { λ r. ⌜ (r ≡ false → NoSum (now (labels .entry)) near far (most .time .0) (most .energy .0) 0) ⌝ }
 {
-    let near_count = wide(u16_at(labels, near));
-    let far_count = wide(u16_at(labels, far));
+    let near_count = count_at(labels, near);
+    let far_count = count_at(labels, far);
     if near_count == 0 {
         return false;
     }
@@ -79,32 +64,32 @@ fn may_cover(labels: &[u8], near: usize, far: usize, time: Seconds, units: Energ
         return false;
     }
     let least = energy_at(labels, near, 0).plus(energy_at(labels, far, 0));
-    if units.below(least) {
+    let energy = most.energy;
+    if energy.below(least) {
         return false;
     }
     let quickest = time_at(labels, near, near_count - 1).plus(time_at(labels, far, far_count - 1));
-    quickest.at_most(time)
+    quickest.at_most(most.time)
 }
 
-// How many entries of the near list are asked at a level: all where it is marked and may cover (time, units), else none.
-fn asked(
+// How many entries of the near list are tried at a level: all where it is marked and may cover the pair, else none.
+fn entries_tried(
     labels: &[u8],
     marks: &[u8; 1024],
     level: usize,
     near: usize,
     far: usize,
-    time: Seconds,
-    units: Energy,
+    most: Pair,
 ) -> usize
     requires { ⌜ ListFits (now labels) near × ListFits (now labels) far ⌝ }
     requires { ⌜ level < 1024 ⌝ }
-    ensures { λ r. ⌜ Asked (now (labels .entry)) (now (marks .entry)) level near far (time .0) (units .0) r ⌝ }
+    ensures { λ r. ⌜ Tried (now (labels .entry)) (now (marks .entry)) level near far (most .time .0) (most .energy .0) r ⌝ }
 {
     if marks[level] != 1 {
         return 0;
     }
-    if may_cover(labels, near, far, time, units) {
-        return wide(u16_at(labels, near));
+    if may_cover(labels, near, far, most) {
+        return count_at(labels, near);
     }
     0
 }
@@ -124,47 +109,61 @@ fn covers(labels: &[u8], near: usize, i: usize, far: usize, j: usize, time: Seco
     sum.at_most(time)
 }
 
-// Whether a sum at a marked level takes no more than (time, units): the two lists for the level `depth`, then those for the levels above it.
-// The search stops at the first entry that covers the pair, out of both loops.
+// Whether a sum of the two lists for a level takes no more than the pair, if the level is marked.
+fn level_reaches(
+    labels: &[u8],
+    marks: &[u8; 1024],
+    level: usize,
+    near: usize,
+    far: usize,
+    most: Pair,
+) -> bool
+    requires { ⌜ ListFits (now labels) near × ListFits (now labels) far ⌝ }
+    requires { ⌜ level < 1024 ⌝ }
+    ensures { λ r. ⌜ Decides (HasWithin (LevelSum (now (labels .entry)) (now (marks .entry)) level near far) (weightOf most)) r ⌝ }
+{
+    let count = entries_tried(labels, marks, level, near, far, most);
+    let mut j = count_at(labels, far);
+    let mut i: usize = 0;
+    while i < count {
+        j = fitting_from(labels, far, energy_at(labels, near, i), most.energy, j);
+        if covers(labels, near, i, far, j, most.time) {
+            return true;
+        }
+        i += 1;
+    }
+    false
+}
+
+// Whether a sum at a marked level takes no more than the pair: the lists at two bytes are those for the deepest level, and behind them
+// stand those for the levels above it.
 fn search_levels(
     labels: &[u8],
     marks: &[u8; 1024],
-    near_list: usize,
-    far_list: usize,
-    depth: usize,
-    time: Seconds,
-    units: Energy,
+    near: usize,
+    far: usize,
+    levels: u32,
+    most: Pair,
 ) -> bool
-    requires { ⌜ (length (now labels) ≤ mostBytes) × (depth < 1024) ⌝ }
-    requires { ⌜ ListsUp (now labels) «near_list» depth × ListsUp (now labels) «far_list» depth ⌝ }
-    ensures { λ r.
-        ⌜ Decides
-        (HasWithin (SumUp (now (labels .entry)) (now (marks .entry)) «near_list» «far_list» depth 0) (pair (time .0) (units .0)))
-        r ⌝ }
+    requires { ⌜ RowFits (now labels) near far levels ⌝ }
+    requires { ⌜ levels ≤ 1024 ⌝ }
+    ensures { λ r. ⌜ Decides (HasWithin (SumUp (now (labels .entry)) (now (marks .entry)) near far levels levels) (weightOf most)) r ⌝ }
 {
-    let mut near = Place { at: near_list };
-    let mut far = Place { at: far_list };
-    let mut left = depth + 1;
-    let mut found = false;
-    'search: while left > 0 {
-        left -= 1;
-        let near_at = near.at;
-        let far_at = far.at;
-        let count = asked(labels, marks, left, near_at, far_at, time, units);
-        let mut j = wide(u16_at(labels, far_at));
-        let mut i: usize = 0;
-        while i < count {
-            j = fitting(labels, far_at, energy_at(labels, near_at, i), units, j);
-            if covers(labels, near_at, i, far_at, j, time) {
-                found = true;
-                break 'search;
-            }
-            i += 1;
+    let mut near_place = Place { at: near };
+    let mut far_place = Place { at: far };
+    let mut done: u32 = 0;
+    while done < levels {
+        let level = (levels - done - 1) as usize;
+        let near_at = near_place.at;
+        let far_at = far_place.at;
+        if level_reaches(labels, marks, level, near_at, far_at, most) {
+            return true;
         }
-        near = near.next(labels);
-        far = far.next(labels);
+        near_place = near_place.next(labels);
+        far_place = far_place.next(labels);
+        done += 1;
     }
-    found
+    false
 }
 
 // Marks the hoplinks of l, unless they are the ones that are marked.
@@ -188,38 +187,35 @@ fn hold_hoplinks(
     *held = l;
 }
 
-// Whether a path from x to y takes no more than (time, units).
+// Whether a path between two junctions takes no more than the pair.
 pub fn reaches(
     net: &[u8],
     labels: &[u8],
     depths: &[u32; 1024],
     tables: &[u32; 13312],
-    x: usize,
-    y: usize,
-    time: Seconds,
-    units: Energy,
+    ends: Ends,
+    most: Pair,
     held: &mut usize,
     marks: &mut [u8; 1024],
 ) -> bool
     requires { ⌜ Prepared (now net) (now labels) (now depths) (now tables) ⌝ }
-    requires { ⌜ (x < junctionsOf (now net)) × (y < junctionsOf (now net)) ⌝ }
+    requires { ⌜ (ends .from < junctionsOf (now net)) × (ends .to < junctionsOf (now net)) ⌝ }
     requires { ⌜ Held (now net) (now labels) (now held) (now marks) ⌝ }
-    ensures { λ r. ⌜ Decides (PathWithin (now (net .entry)) x y (pair (time .0) (units .0))) r ⌝ }
+    ensures { λ r. ⌜ Decides (PathWithin (now (net .entry)) (ends .from) (ends .to) (weightOf most)) r ⌝ }
     ensures { λ _. ⌜ Held (now (net .entry)) (now (labels .entry)) (now (held .exit)) (now (marks .exit)) ⌝ }
 {
+    let x = ends.from;
+    let y = ends.to;
     if x == y {
         return true;
     }
-    let met = meet(labels, depths, tables, x, y);
-    let Met::At(l, near, far) = met else {
-        return false;
-    };
-    if l == x {
-        return list_reaches(labels, far, time, units);
+    let lists = between(labels, depths, tables, x, y);
+    match lists {
+        Between::Nothing => false,
+        Between::List(at) => list_reaches(labels, at, most),
+        Between::Lists(near, far, levels, meeting) => {
+            hold_hoplinks(net, labels, depths, meeting, held, marks);
+            search_levels(labels, marks, near, far, levels, most)
+        }
     }
-    if l == y {
-        return list_reaches(labels, near, time, units);
-    }
-    hold_hoplinks(net, labels, depths, l, held, marks);
-    search_levels(labels, marks, near, far, number_of(depths, l), time, units)
 }

@@ -1,3 +1,4 @@
--- What the whole list of an accepted set is, as the code hands it back. Read in this order.
+-- Which list is told on an accepted set, as the code hands it back. Read in this order.
+pub mod Tells
 pub mod Noting
 pub mod Written

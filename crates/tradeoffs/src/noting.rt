@@ -57,7 +57,7 @@ fn note_entry(
         if second >= SECONDS {
             return;
         }
-        lower(leasts, second, sum.units);
+        lower(leasts, second, sum.energy);
         j -= 1;
     }
 }
@@ -189,7 +189,7 @@ pub fn next_below(
         };
     }
     let answer = from_lists(labels, near, far, levels, Energy(bound.0 - 1));
-    let Answer::Found(time, units) = answer else {
+    let Answer::Found(time, energy) = answer else {
         return Next {
             answer: answer,
             span: span,
@@ -197,7 +197,7 @@ pub fn next_below(
     };
     let after = span_from(labels, near, far, levels, bound, span, time, leasts);
     Next {
-        answer: Answer::Found(time, units),
+        answer: Answer::Found(time, energy),
         span: after,
     }
 }

@@ -1,7 +1,8 @@
 -- Without an entry that fits there is no sum; else the sum of the two times decides.
 use native.Mathlib.Omega.{arith}
 use Prim.Native.Nat.{_-_}
-use Rattle.reaching.proofs.Searching.{entry-inside, covers-none, covers-decides}
+use Rattle.query.proofs.ListPlaces.{entry-inside}
+use Rattle.reaching.proofs.Searching.{covers-none, covers-decides}
 use borrow.Author.Needs.{needs}
 use Rattle.reaching.proofs.reach.covers.Statement.{statement}
 use Rattle.reaching.proofs.reach.covers.Tie as tie

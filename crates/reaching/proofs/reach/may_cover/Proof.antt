@@ -1,58 +1,52 @@
 -- The first entries have the least energies and the last ones the least times, so no sum of two entries takes less than these.
-use mathlib.Core.Path.{_∙_}
 use Prim.Native.Nat.{_-_}
 use native.Mathlib.Omega.{arith}
-use Rattle.reaching.proofs.Searching.{entry-inside, count-stands, no-near, no-far, least-over, quickest-late}
+use Rattle.query.proofs.ListPlaces.{entry-inside}
+use Rattle.reaching.proofs.Searching.{no-near, no-far, least-over, quickest-late}
 use borrow.Author.Needs.{needs}
 use Rattle.reaching.proofs.reach.may_cover.Statement.{statement}
 use Rattle.reaching.proofs.reach.may_cover.Tie as tie
 
-u16-at-requires : tie.Need-u16-at-requires
-u16-at-requires c κs = count-stands (c .before .pre .0)
+count-at-requires : tie.Need-count-at-requires
+count-at-requires c κs = search needs
 
-wide-requires : tie.Need-wide-requires
-wide-requires c κs = search needs
-
-u16-at-requires-2 : tie.Need-u16-at-requires-2
-u16-at-requires-2 c κs = count-stands (c .before .before .before .pre .1)
-
-wide-requires-2 : tie.Need-wide-requires-2
-wide-requires-2 c κs = search needs
+count-at-requires-2 : tie.Need-count-at-requires-2
+count-at-requires-2 c κs = search needs
 
 returns : tie.Need-returns
 returns c =
-    let near = c .before .before .before in
-    λ q. no-near (near .wide .ensures ∙ near .before .u16-at .ensures .is) (c .if1 .taken)
+    let near = c .before .before in
+    λ q. no-near (near .count-at .ensures) (c .if1 .taken)
 
 returns-2 : tie.Need-returns-2
 returns-2 c =
     let far = c .before .before in
-    λ q. no-far (far .wide2 .ensures ∙ far .before .u16-at2 .ensures .is) (c .if2 .taken)
+    λ q. no-far (far .count-at2 .ensures) (c .if2 .taken)
 
 energy-at-requires : tie.Need-energy-at-requires
 energy-at-requires c κs =
     let far = c .before .before in
-    let near = far .before .before in
-    let p = near .before .before .before .pre in
-    entry-inside (p .0) {j = 0} (omega (arith, near .wide .ensures, near .before .u16-at .ensures .is, c .before .if1 .left))
+    let near = far .before in
+    let p = near .before .before .pre in
+    entry-inside (p .0) {j = 0} (omega (arith, near .count-at .ensures, c .before .if1 .left))
 
 energy-at-requires-2 : tie.Need-energy-at-requires-2
 energy-at-requires-2 c κs =
     let far = c .before .before .before in
-    let p = far .before .before .before .before .before .pre in
-    entry-inside (p .1) {j = 0} (omega (arith, far .wide2 .ensures, far .before .u16-at2 .ensures .is, c .before .if2 .left))
+    let p = far .before .before .before .pre in
+    entry-inside (p .1) {j = 0} (omega (arith, far .count-at2 .ensures, c .before .if2 .left))
 
 plus-requires : tie.Need-plus-requires
 plus-requires c κs =
     let far = c .before .before .before .before in
-    let near = far .before .before in
-    let p = near .before .before .before .pre in
+    let near = far .before in
+    let p = near .before .before .pre in
     omega (
       arith,
       c .before .energy-at .ensures,
       c .energy-at2 .ensures,
-      p .0 .energy-fits 0 (omega (arith, near .wide .ensures, near .before .u16-at .ensures .is, c .before .before .before .if1 .left)) .1,
-      p .1 .energy-fits 0 (omega (arith, far .wide2 .ensures, far .before .u16-at2 .ensures .is, c .before .before .if2 .left)) .1,
+      p .0 .energy-fits 0 (omega (arith, near .count-at .ensures, c .before .before .before .if1 .left)) .1,
+      p .1 .energy-fits 0 (omega (arith, far .count-at2 .ensures, c .before .before .if2 .left)) .1,
     )
 
 below-requires : tie.Need-below-requires
@@ -60,10 +54,10 @@ below-requires c κs = search needs
 
 returns-3 : tie.Need-returns-3
 returns-3 c =
-    let sum = c .before .before in
+    let sum = c .before .before .before in
     let second = sum .before in
     let first = second .before in
-    let p = first .before .before .before .before .before .before .before .before .pre in
+    let p = first .before .before .before .before .before .before .pre in
     λ q. least-over (p .0) (p .1) (first .energy-at .ensures) (second .energy-at2 .ensures) (sum .plus .ensures) (c .before .below .ensures) (c .if3 .taken)
 
 sub-time-at : tie.Need-sub-time-at
@@ -71,34 +65,34 @@ sub-time-at c = search needs
 
 time-at-requires : tie.Need-time-at-requires
 time-at-requires c κs =
-    let empty = c .before .before .before .before .before in
+    let empty = c .before .before .before .before .before .before in
     let far = empty .before .before in
-    let near = far .before .before in
-    let p = near .before .before .before .pre in
-    omega (arith, entry-inside (p .0) {j = near .wide .result - 1} (omega (arith, near .wide .ensures, near .before .u16-at .ensures .is, empty .before .if1 .left)))
+    let near = far .before in
+    let p = near .before .before .pre in
+    omega (arith, entry-inside (p .0) {j = near .count-at .result - 1} (omega (arith, near .count-at .ensures, empty .before .if1 .left)))
 
 sub-time-at-2 : tie.Need-sub-time-at-2
 sub-time-at-2 c = search needs
 
 time-at-requires-2 : tie.Need-time-at-requires-2
 time-at-requires-2 c κs =
-    let empty = c .before .before .before .before .before .before in
+    let empty = c .before .before .before .before .before .before .before in
     let far = empty .before .before in
-    let p = far .before .before .before .before .before .pre in
-    omega (arith, entry-inside (p .1) {j = far .wide2 .result - 1} (omega (arith, far .wide2 .ensures, far .before .u16-at2 .ensures .is, empty .if2 .left)))
+    let p = far .before .before .before .pre in
+    omega (arith, entry-inside (p .1) {j = far .count-at2 .result - 1} (omega (arith, far .count-at2 .ensures, empty .if2 .left)))
 
 plus-requires-2 : tie.Need-plus-requires-2
 plus-requires-2 c κs =
-    let empty = c .before .before .before .before .before .before .before in
+    let empty = c .before .before .before .before .before .before .before .before in
     let far = empty .before .before in
-    let near = far .before .before in
-    let p = near .before .before .before .pre in
+    let near = far .before in
+    let p = near .before .before .pre in
     omega (
       arith,
       c .before .time-at .ensures,
       c .time-at2 .ensures,
-      p .0 .time-fits (near .wide .result - 1) (omega (arith, near .wide .ensures, near .before .u16-at .ensures .is, empty .before .if1 .left)) .1,
-      p .1 .time-fits (far .wide2 .result - 1) (omega (arith, far .wide2 .ensures, far .before .u16-at2 .ensures .is, empty .if2 .left)) .1,
+      p .0 .time-fits (near .count-at .result - 1) (omega (arith, near .count-at .ensures, empty .before .if1 .left)) .1,
+      p .1 .time-fits (far .count-at2 .result - 1) (omega (arith, far .count-at2 .ensures, empty .if2 .left)) .1,
     )
 
 at-most-requires : tie.Need-at-most-requires
@@ -109,19 +103,17 @@ returns-4 c =
     let sum = c .before in
     let second = sum .before in
     let first = second .before in
-    let far = first .before .before .before .before .before .before .before .before in
-    let near = far .before .before in
-    let p = near .before .before .before .pre in
-    λ q. quickest-late (p .0) (p .1) (near .wide .ensures ∙ near .before .u16-at .ensures .is) (far .wide2 .ensures ∙ far .before .u16-at2 .ensures .is) (first .time-at .ensures) (second .time-at2 .ensures) (sum .plus2 .ensures) (c .at-most .ensures) q
+    let far = first .before .before .before .before .before .before .before .before .before in
+    let near = far .before in
+    let p = near .before .before .pre in
+    λ q. quickest-late (p .0) (p .1) (near .count-at .ensures) (far .count-at2 .ensures) (first .time-at .ensures) (second .time-at2 .ensures) (sum .plus2 .ensures) (c .at-most .ensures) q
 
 pub may-cover-spec : {M : Type 1} → statement M
 may-cover-spec =
     tie.close
     (tie.spec
-    u16-at-requires
-    wide-requires
-    u16-at-requires-2
-    wide-requires-2
+    count-at-requires
+    count-at-requires-2
     returns
     returns-2
     energy-at-requires

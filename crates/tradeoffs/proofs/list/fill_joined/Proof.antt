@@ -1,7 +1,6 @@
 -- As many entries of the list lie below the bound as places are left, and the best answer there is the last of them, which goes to the last
 -- of those places.
 use native.Mathlib.Omega.{arith}
-use Rattle.query.proofs.WholeAnswers.{row-fits}
 use Rattle.tradeoffs.proofs.NotingLaws.{refused, found-key}
 use Rattle.tradeoffs.proofs.ListSteps.{FillingList, fill-start, fill-bound, fill-more, fill-never, fill-end}
 use borrow.Author.Needs.{needs}
@@ -9,11 +8,11 @@ use Rattle.tradeoffs.proofs.list.fill_joined.Statement.{statement}
 use Rattle.tradeoffs.proofs.list.fill_joined.Tie as tie
 
 abbrev Inv-loop : tie.InvT-loop
-Inv-loop net labels depths tables x y near far levels count times₀ energies₀ leasts₀ span₀ place₀ below₀ times energies leasts span place below =
-    FillingList net labels x y near far levels times₀ energies₀ below place times energies span leasts
+Inv-loop labels near far levels count times₀ energies₀ leasts₀ span₀ place₀ below₀ times energies leasts span place below =
+    FillingList labels near far levels count times₀ energies₀ below place times energies span leasts
 
 abbrev μ-loop : tie.MeasureT-loop
-μ-loop net labels depths tables x y near far levels count times₀ energies₀ leasts₀ span₀ place₀ below₀ times energies leasts span place below =
+μ-loop labels near far levels count times₀ energies₀ leasts₀ span₀ place₀ below₀ times energies leasts span place below =
     place
 
 no-span-requires : tie.Need-no-span-requires Inv-loop μ-loop
@@ -21,15 +20,13 @@ no-span-requires c κs = search needs
 
 loop-holds : tie.Need-loop-holds Inv-loop μ-loop
 loop-holds c =
-    let pre = c .before .before .before .before .before .pre in
-    fill-start (pre .0) (pre .1 .0) (pre .1 .1 .1 .0) (pre .1 .1 .1 .1 .0) (pre .1 .1 .1 .1 .1) (c .no-span .ensures) (pre .1 .1 .0)
+    let pre = c .before .before .before .before .pre in
+    fill-start (pre .0) (pre .1 .1 .0) (pre .1 .1 .1) (c .no-span .ensures) (pre .1 .0)
 
 next-below-requires : tie.Need-next-below-requires Inv-loop μ-loop
 next-below-requires c κs =
-    let turn = c .before in
-    let loop = turn .before in
-    let pre = loop .before .before .before .before .before .before .pre in
-    (row-fits (pre .0) (pre .1 .0), (fill-bound (pre .0) (pre .1 .0) (loop .loop .inv) (turn .loop-test .taken), loop .loop .inv .waits))
+    let now = c .before .before .loop .inv in
+    (now .right .fits, (fill-bound now (c .before .loop-test .taken), now .waits))
 
 enum-known-answer : tie.Need-enum-known-answer Inv-loop μ-loop
 enum-known-answer c = search needs
@@ -44,8 +41,7 @@ returns : tie.Need-returns Inv-loop μ-loop
 returns c =
     let below = c .before in
     let turn = below .before .before in
-    let pre = turn .before .before .before .before .before .before .before .pre in
-    absurd (fill-never (pre .0) (pre .1 .0) (turn .before .loop .inv) (turn .loop-test .taken) (below .next-below .ensures) (refused (below .next-below .result .answer) (λ w. found-key (rw (w .is) at (c .match .keys2)))))
+    absurd (fill-never (turn .before .loop .inv) (turn .loop-test .taken) (below .next-below .ensures) (refused (below .next-below .result .answer) (λ w. found-key (rw (w .is) at (c .match .keys2)))))
 
 sub-place : tie.Need-sub-place Inv-loop μ-loop
 sub-place c = search needs
@@ -53,7 +49,7 @@ sub-place c = search needs
 mul-times : tie.Need-mul-times Inv-loop μ-loop
 mul-times c =
     let head = c .before .before .before .before .before .before in
-    omega (arith, head .before .before .before .before .before .before .good, head .loop .inv)
+    omega (arith, head .before .before .before .before .before .good, head .loop .inv)
 
 slice-write-times : tie.Need-slice-write-times Inv-loop μ-loop
 slice-write-times c = search needs
@@ -61,7 +57,7 @@ slice-write-times c = search needs
 mul-energies : tie.Need-mul-energies Inv-loop μ-loop
 mul-energies c =
     let head = c .before .before .before .before .before .before in
-    omega (arith, head .before .before .before .before .before .before .good, head .loop .inv)
+    omega (arith, head .before .before .before .before .before .good, head .loop .inv)
 
 slice-write-energies : tie.Need-slice-write-energies Inv-loop μ-loop
 slice-write-energies c = search needs
@@ -74,8 +70,7 @@ loop-again c =
     let known = c .before .before in
     let below = known .before .before in
     let turn = below .before .before in
-    let pre = turn .before .before .before .before .before .before .before .pre in
-    fill-more (pre .0) (pre .1 .0) (turn .before .loop .inv) (turn .loop-test .taken) (below .next-below .ensures) (known .answer .given .1)
+    fill-more (turn .before .loop .inv) (turn .loop-test .taken) (below .next-below .ensures) (known .answer .given .1)
 
 same-length-3 : tie.Need-same-length-3 Inv-loop μ-loop
 same-length-3 c = search needs
@@ -84,9 +79,7 @@ same-length-4 : tie.Need-same-length-4 Inv-loop μ-loop
 same-length-4 c = search needs
 
 returns-2 : tie.Need-returns-2 Inv-loop μ-loop
-returns-2 c =
-    let pre = c .before .before .before .before .before .before .before .pre in
-    fill-end (c .before .loop .inv) (c .loop-test .left) (pre .1 .1 .1 .0)
+returns-2 c = fill-end (c .before .loop .inv) (c .loop-test .left)
 
 pub fill-joined-spec : {M : Type 1} → statement M
 fill-joined-spec =

@@ -54,7 +54,7 @@ loop-again c =
     let turn = summed .before in
     let pre = turn .before .before .before .pre in
     entry-more (turn .before .loop .inv) (turn .loop-test .taken) (summed .sum-at .ensures .time-is) (test .before .seconds-behind .ensures)
-    (entry-later (turn .before .loop .inv) (turn .loop-test .taken) (summed .sum-at .ensures .time-is) (pre .1 .1 .0)) (summed .sum-at .ensures .units-is) (test .if1 .left) (c .lower .ensures)
+    (entry-later (turn .before .loop .inv) (turn .loop-test .taken) (summed .sum-at .ensures .time-is) (pre .1 .1 .0)) (summed .sum-at .ensures .energy-is) (test .if1 .left) (c .lower .ensures)
 
 returns-2 : tie.Need-returns-2 Inv-loop μ-loop
 returns-2 c = entry-all (c .before .loop .inv) (c .loop-test .left)
