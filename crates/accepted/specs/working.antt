@@ -2,4 +2,5 @@
 pub mod Accepting
 pub mod Triples
 pub mod RoutePut
+pub mod ListPut
 pub mod FromCheck

@@ -16,7 +16,7 @@ put-route-requires c κs =
     let asked = c .before .before .before .before in
     let pre = asked .before .before .before .before .pre in
     let pair-found = answered-zero (found-zero (c .before .before .found .given .1) (asked .answer .ensures)) in
-    (pre .0, (pre .1, ((pair-found .start-on-map, pair-found .finish-on-map), found-skyline pair-found)))
+    (pre, ((pair-found .start-on-map, pair-found .finish-on-map), found-skyline pair-found))
 
 enum-told : tie.Need-enum-told
 enum-told c = search needs
