@@ -14,7 +14,7 @@ ghost use Rattle.accepted.specs.ListAnswers.{listNumberOf, listCountOf};
 ghost use Rattle.accepted.specs.working.FromCheck.{listFromCheck};
 ghost use Rattle.accepted.specs.working.ListPut.{ListPut, itself};
 
-// "room is the shorter of the two".
+// The room of two slices is that of the shorter one.
 fn shorter(times: usize, energies: usize) -> usize
     ensures { λ r. ⌜ r ≡ min times energies ⌝ }
 {

@@ -138,7 +138,7 @@ module _ {labels : List ℕ} (fit : ParentsFit labels) where
           let here = one-up fit v below other in
           child (parents-child labels v below other) (count d (parentAt labels v) (here .on-map) (omega arith))
 
-  -- "The parents form a forest"; what is no junction is a root
+  -- Parents that passed are those of a forest; what is no junction is a root
   pub forest : IsForest (parentsOf labels)
   forest = record { depth = λ v. cond (ltb v (junctionsOf labels)) (depthOf labels v) 0; ends = λ v. ended v (decLt v (junctionsOf labels)) }
     where
@@ -189,7 +189,7 @@ module _ {net labels : List ℕ} (fit : ParentsFit labels) (sound : NetworkFits 
   related-joined k h (inr down) =
       rw (is-ancestor-complete fit (low-on-map net labels sound same k h refl) down) (or-true (isAncestor labels (roadLow net k) (roadHigh net k)))
 
-  -- 16 is passed exactly where "each road joins an ancestor and a descendant"
+  -- 16 is passed exactly where every road joins a junction with an ancestor of it
   pub roads-related : every (roadJoins net labels) (roadsOf net) ≡ true → RoadsJoinRelated (networkOf net) (parentsOf labels)
   roads-related all = record { joined = λ {x} {y} {r = k} a. turned k (a .ends) (tested k (a .stands)) }
     where

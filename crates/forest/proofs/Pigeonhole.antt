@@ -1,4 +1,4 @@
--- "a parent chain that returns" is one that has not ended after n steps: n steps on the map meet n + 1 junctions, so one twice.
+-- A chain of parents that comes back is one that has not ended after n steps: n steps on the map meet n + 1 junctions, so one twice.
 -- In this order: the junctions that a chain meets; chains that do not return end; chains that end do not return; what 15 tests.
 use mathlib.Core.Path.{_≡_, refl, ap}
 use mathlib.Core.Bool.{true}
@@ -120,7 +120,7 @@ module _ (labels : List ℕ) (fits : AllFit labels) where
 pub ends-not-returns : (labels : List ℕ) {v : ℕ} → AllEnd labels → Returns (parentsOf labels) v → ⊥
 ends-not-returns labels ends r = omega (arith, above-shallower labels ends (r .again))
 
--- ---- 15 is given exactly where "parent not below n and not 65,535, or a parent chain that returns"
+-- ---- 15 is given exactly where a parent is out of range or a chain of parents comes back
 
 -- Every parent is a junction or none, and no chain returns
 pub record NoneReturns (labels : List ℕ) : Type 0 where

@@ -25,7 +25,7 @@ module _ (𝓛 : Figures) where
     none-within : ((q : weights 𝓛 .Figure) → List·Memᴰ q l → Within 𝓛 limit q → ⊥) → Searched l limit
 
 module _ {𝓛 : Figures} (𝓝 : Network 𝓛) where
-  -- "Over the limit" and "not connected" are the only ways to have no best answer
+  -- Over the limit and not connected are the only ways to have no best answer
   pub data Outcome (s t : ℕ) (limit : 𝓛 .Figure) : Type 0 where
     answered : {p : weights 𝓛 .Figure} → Best 𝓝 s t limit p → Outcome s t limit
     over : Over 𝓝 s t limit → Outcome s t limit
@@ -147,7 +147,7 @@ module _ {𝓛 : Figures} (lawful : Lawful 𝓛) where
       pick (over no-way) = absurd (no-way .none-within w h)
       pick (apart none) = absurd (none w)
 
-  -- "s = t [...]: (0,0)", under any limit
+  -- From a junction to itself the answer is (0,0), under any limit
   pub alone-best : {𝓝 : Network 𝓛} (s : ℕ) (limit : 𝓛 .Figure) → Best 𝓝 s s limit (weights 𝓛 .𝟘)
   unfolding weight
   alone-best s limit =

@@ -142,7 +142,7 @@ module _ {𝓛 : Figures} {𝓝 : Network 𝓛} (parent : Parents) (joined : Roa
 
   -- ---- Branches and hoplinks
 
-  -- W-207's two sets: "the working set of the child of l on the branch of s, without that child, or the same for t"
+  -- Two smaller sets: the working set of the child of l on the side of s, without that child, and the same on the side of t
   pub start-branch-cut : {s t l c : ℕ} → Deepest parent s t l → parent c ≡ some l → Ancestor parent c s → IsCut 𝓝 (Crosses 𝓝 parent c) s t
   start-branch-cut d e h w = leaves-subtree h (λ k. child-not-common forest d e (record { of-start = h; of-finish = k })) w
 

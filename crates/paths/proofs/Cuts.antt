@@ -132,7 +132,7 @@ module _ {𝓛 : Figures} (lawful : Lawful 𝓛) where
       pub demand3-answered : {p : Weight} → Best 𝓝 s t limit p ↔ BestLegs 𝓝 H s t limit p
       demand3-answered = (answer-is-best-legs, best-legs-answer)
 
-      -- Demand 3: "where no junction and cut give two answered legs, it is refused"
+      -- SCOPE 7.3: no answer exactly where no junction and no cut give two answered legs
       pub demand3-refused : ((p : Weight) → Best 𝓝 s t limit p → ⊥) ↔ ((p : Weight) → Legs 𝓝 H s t limit p → ⊥)
       demand3-refused = (
         (λ none p legs. let z = best-exists lawful {limit = limit} (lists s t) (legs-walk legs) (rw (legs-weigh legs) (legs-within legs)) in none (z .weighs) (z .best)),

@@ -1,5 +1,5 @@
 -- Decisions that compute at closed data: name each on an `unfolding` line, and `by-decision d tt` is what d decides.
--- (`Dec·and` and `Dec·not` are mathlib's; `found?` of Covering decides "somewhere in a list".)
+-- (`Dec·and` and `Dec·not` are mathlib's; `found?` of Covering decides whether a list has such an entry.)
 -- In this order: connectives; over a list; below a number.
 use mathlib.Core.Path.{_≡_, refl}
 use mathlib.Core.Logic.{_⊎_, inl, inr, ⊎-elim, Dec·and}

@@ -192,7 +192,7 @@ module _ {𝓛 : Figures} (lawful : Lawful 𝓛) where
         let z = followed finite w in
         record { via = by a (Memᴰ·map (λ h. h .to) (finite .listed a)) (z .via); weighs = ap (λ q. p ⊕ q) (z .weighs) }
 
-    -- "The trade-off list of s and t" exists
+    -- Every two junctions have a trade-off list
     pub tradeOff-exists : Finite 𝓝 → (s t : ℕ) → TradeOffs 𝓝 s t
     tradeOff-exists finite s t =
         let c = cover finite (map (λ h. h .to) (finite .hops)) s t in

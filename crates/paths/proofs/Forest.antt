@@ -30,7 +30,7 @@ module _ {parent : Parents} where
   above-trans h (parent-is e) = parent-has e h
   above-trans h (parent-has e k) = parent-has e (above-trans h k)
 
-  -- "A junction counts among its own ancestors"
+  -- Every junction is an ancestor of itself
   pub ancestor-refl : (v : ℕ) → Ancestor parent v v
   ancestor-refl v = inl refl
 
@@ -75,7 +75,7 @@ module _ {parent : Parents} where
   outside-above h n (inr k) =
       ⊎-elim (⊎-elim (λ e. absurd (n (inl (sym e)))) (λ a. a)) (λ a. absurd (n a)) (ancestors-related k h)
 
-  -- "the child of l [...] on the branch of s"
+  -- The child of l below which s stands
   pub child-towards : {l s : ℕ} → Above parent l s → ChildTowards parent l s
   child-towards {s = s} (parent-is e) = record { branch = s; hangs = e; towards = inl refl }
   child-towards (parent-has e h) =

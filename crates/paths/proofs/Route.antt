@@ -90,7 +90,7 @@ module _ {𝓛 : Figures} {𝓝 : Network 𝓛} where
   firstAmong-unique a b =
       notAfter-antisym (rw (b .meets) at (a .first (b .walk) (b .wanted))) (rw (a .meets) at (b .first (a .walk) (a .wanted)))
 
-  -- "Its route is [...] the one"
+  -- A pair has one first route only
   pub firstRoute-unique : {s t : ℕ} {p : weights 𝓛 .Figure} {js ks : List ℕ} → FirstRoute 𝓝 s t p js → FirstRoute 𝓝 s t p ks → js ≡ ks
   firstRoute-unique a b = firstAmong-unique a b
 
@@ -113,7 +113,7 @@ module _ {𝓛 : Figures} (lawful : Lawful 𝓛) where
         (W .⊑-trans (⊑-of-eq W (split-weighs lawful z)) (part-⊑-right W w (weight k))))
         (omega (arith, ap (time 𝓛) (split-weighs lawful z)))
 
-    -- "Such a path visits no junction twice."
+    -- A path of an unbeaten pair visits no junction twice
     pub unbeaten-visits-once :
         {s t : ℕ} (w : Walk 𝓝 s t) → ((other : Walk 𝓝 s t) → Beats 𝓛 (weight other) (weight w) → ⊥) → NoneTwice (junctions w)
     unfolding weight junctions

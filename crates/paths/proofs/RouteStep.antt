@@ -147,7 +147,7 @@ module _ {𝓛 : Figures} {𝓝 : Network 𝓛} where
         rw (z .meets) at (step-back (z .walk) apart (z .wanted) (λ other want. rw (z .meets) (z .first other want)))
 
 module _ {𝓛 : Figures} (𝓝 : Network 𝓛) where
-  -- "s = t [...]: (0,0), one junction"
+  -- From a junction to itself the route is that junction alone
   pub stay-route : (s : ℕ) → FirstRoute 𝓝 s s (weights 𝓛 .𝟘) (s ∷ [])
   stay-route s = stay-first refl
 

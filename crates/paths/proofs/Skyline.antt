@@ -99,7 +99,7 @@ module _ (𝓛 : Figures) where
       sums : Listing (λ p. Found (λ a. Found (λ b. p ≡ a ⊕ b) l) k)
       sums = listing-gather (λ a p. Found (λ b. p ≡ a ⊕ b) l) right-sums k
 
-  -- The members of m, "each pair once, energy strictly rising"
+  -- The members of m, each once, in rising order
   pub record Sorted (m : List Weight) : Type 0 where
     pub list : List Weight
     pub rising : Rising 𝓛 list

@@ -283,12 +283,12 @@ module _ {labels marks : List ℕ} {near far levels mostTime mostEnergy done n f
         no-larger = z .no-larger;
       })
 
--- no level is left
+-- no level is left, and nothing was found
 pub levels-end :
-    {labels marks : List ℕ} {near far levels mostTime mostEnergy done n f : ℕ} → LevelSearch labels marks near far levels mostTime mostEnergy done n f →
-    levels ≤ done → Decides (HasWithin (SumUp labels marks near far levels levels) (pair mostTime mostEnergy)) false
-levels-end {labels} {marks} {near} {far} {levels} {mostTime} {mostEnergy} now h =
+    {labels marks : List ℕ} {near far levels mostTime mostEnergy done n f : ℕ} {found : Bool} → LevelSearch labels marks near far levels mostTime mostEnergy done n f →
+    levels ≤ done → found ≡ false → Decides (HasWithin (SumUp labels marks near far levels levels) (pair mostTime mostEnergy)) found
+levels-end {labels} {marks} {near} {far} {levels} {mostTime} {mostEnergy} now h e =
     record {
-      holds = λ q. not-both q;
+      holds = λ q. not-both (sym e ∙ q);
       fails = λ q z. subst (λ d. HasWithin (SumUp labels marks near far levels d) (pair mostTime mostEnergy) → ⊥) (along-all (now .along) h) (now .none) z;
     }

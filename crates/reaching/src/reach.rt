@@ -109,34 +109,8 @@ fn covers(labels: &[u8], near: usize, i: usize, far: usize, j: usize, time: Seco
     sum.at_most(time)
 }
 
-// Whether a sum of the two lists for a level takes no more than the pair, if the level is marked.
-fn level_reaches(
-    labels: &[u8],
-    marks: &[u8; 1024],
-    level: usize,
-    near: usize,
-    far: usize,
-    most: Pair,
-) -> bool
-    requires { ⌜ ListFits (now labels) near × ListFits (now labels) far ⌝ }
-    requires { ⌜ level < 1024 ⌝ }
-    ensures { λ r. ⌜ Decides (HasWithin (LevelSum (now (labels .entry)) (now (marks .entry)) level near far) (weightOf most)) r ⌝ }
-{
-    let count = entries_tried(labels, marks, level, near, far, most);
-    let mut j = count_at(labels, far);
-    let mut i: usize = 0;
-    while i < count {
-        j = fitting_from(labels, far, energy_at(labels, near, i), most.energy, j);
-        if covers(labels, near, i, far, j, most.time) {
-            return true;
-        }
-        i += 1;
-    }
-    false
-}
-
 // Whether a sum at a marked level takes no more than the pair: the lists at two bytes are those for the deepest level, and behind them
-// stand those for the levels above it.
+// stand those for the levels above it. The search stops at the first entry that covers the pair, out of both loops.
 fn search_levels(
     labels: &[u8],
     marks: &[u8; 1024],
@@ -152,18 +126,33 @@ fn search_levels(
     let mut near_place = Place { at: near };
     let mut far_place = Place { at: far };
     let mut done: u32 = 0;
-    while done < levels {
+    let mut found = false;
+    'search: while done < levels {
         let level = (levels - done - 1) as usize;
         let near_at = near_place.at;
         let far_at = far_place.at;
-        if level_reaches(labels, marks, level, near_at, far_at, most) {
-            return true;
+        let count = entries_tried(labels, marks, level, near_at, far_at, most);
+        let mut j = count_at(labels, far_at);
+        let mut i: usize = 0;
+        while i < count {
+            j = fitting_from(
+                labels,
+                far_at,
+                energy_at(labels, near_at, i),
+                most.energy,
+                j,
+            );
+            if covers(labels, near_at, i, far_at, j, most.time) {
+                found = true;
+                break 'search;
+            }
+            i += 1;
         }
         near_place = near_place.next(labels);
         far_place = far_place.next(labels);
         done += 1;
     }
-    false
+    found
 }
 
 // Marks the hoplinks of l, unless they are the ones that are marked.

@@ -32,7 +32,7 @@ ghost use Rattle.stored.specs.working.Scanned.{BehindEntries, timeCeilin
 
 const MOST_COUNT: usize = 4095;
 
-// "each 1 to 67,042,305": the least time, and the most of either figure; the least energy is the version's
+// The least time, and the most of either figure; the least energy is the version's
 const LEAST_TIME: u32 = 1;
 
 pub const MOST_FIGURE: u32 = 67042305;

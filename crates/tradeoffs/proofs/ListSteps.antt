@@ -12,6 +12,7 @@ use Rattle.paths.proofs.OneLimit.{LastWithin}
 use Rattle.refusals.specs.Lent.{filled}
 use Rattle.refusals.proofs.Lent.{filled-none}
 use Rattle.lists.specs.Entries.{Weight, times, energies}
+use Rattle.lists.specs.working.Lists.{aboveAll}
 use Rattle.lists.proofs.JoinBackwards.{below-some, below-none, filled-end, Counting, counting-start, counting-more, counting-none, counting-end, Filling, filling-start, filling-more}
 use Rattle.spans.specs.declared.Span.{Span}
 use Rattle.spans.specs.working.Noting.{spanSeconds}
@@ -120,10 +121,6 @@ module _ {labels : List ℕ} {at : ℕ} where
         }
 
 -- ---- The sums where two branches meet
-
--- More than the energy of any entry
-abbrev pub aboveAll : ℕ
-aboveAll = 2147483647
 
 -- every entry has less energy than the first bound
 entries-small : {labels : List ℕ} {near far levels : ℕ} {l : List Weight} → JoinedList labels near far levels l → (p : Weight) → List·Memᴰ p l → spent energy p < aboveAll

@@ -2,6 +2,7 @@
 // meet, the list is made from its last entry to its first: the best sum below a bound, then the best below that one's energy, and so on.
 // It is counted first, so that nothing is written before the room is known.
 use crate::noting::next_below;
+use lists::ABOVE_ALL;
 use paths::energy::Energy;
 use query::Answer;
 use query::Between;
@@ -14,9 +15,6 @@ ghost use lib.ListN.{length};
 ghost use Rattle.spans.specs.working.Noting.{spanSeconds};
 ghost use Rattle.tradeoffs.specs.working.Tells.{JoinedList, Tells};
 ghost use Rattle.tradeoffs.specs.working.Written.{SomeList, Counted, ListWritten};
-
-// More than the energy of any entry.
-const ABOVE_ALL: u32 = 2147483647;
 
 // How many entries the list of the sums has, whose lists stand from two bytes on.
 fn count_joined(

@@ -14,7 +14,7 @@ aboveAll = 2147483647
 abbrev pub entryAt : List ℕ → List ℕ → ℕ → Weight
 entryAt times energies i = pair (getD times i 0) (getD energies i 0)
 
--- Two slices of one length, "energy strictly rising and time strictly falling", no number above the most
+-- Two slices of one length: energy rises, time falls, both strictly, and no number is above the most
 pub record IsList (most : ℕ) (times energies : List ℕ) : Type 0 where
   pub one-length : length times ≡ length energies
   pub small-time : (i : ℕ) → i < length times → getD times i 0 ≤ most

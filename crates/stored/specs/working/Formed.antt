@@ -30,7 +30,7 @@ pub record ListFits (labels : List ℕ) (at : ℕ) : Type 0 where
   pub time-falls : (j : ℕ) → suc j < countAt labels at → timeAt labels at (suc j) < timeAt labels at j
   pub energy-rises : (j : ℕ) → suc j < countAt labels at → energyAt labels at j < energyAt labels at (suc j)
 
--- Labels that passed 11 to 15 and 17: "lists tile the file exactly to its end"
+-- Labels that passed 11 to 15 and 17: the lists stand one behind another up to the end of the file
 pub record Formed (labels : List ℕ) : Type 0 where
   pub few-bytes : length labels ≤ mostBytes
   pub some-junction : 1 ≤ junctionsOf labels
