@@ -33,8 +33,8 @@ module _ {net labels : List ℕ} (beside : FilesFit net labels) where
   not-same : {x y : ℕ} → x ≡ y → Above (parentsOf labels) x y → ⊥
   not-same e h = above-irrefl (parents-forest beside) (rw e at h)
 
-  not-both : {x y : ℕ} → Above (parentsOf labels) x y → Above (parentsOf labels) y x → ⊥
-  not-both h k = above-irrefl (parents-forest beside) (above-trans h k)
+  above-one-way : {x y : ℕ} → Above (parentsOf labels) x y → Above (parentsOf labels) y x → ⊥
+  above-one-way h k = above-irrefl (parents-forest beside) (above-trans h k)
 
 -- ---- What is left
 
@@ -60,7 +60,7 @@ module _ {net labels : List ℕ} (beside : FilesFit net labels) {w u : ℕ} wher
       held : {q : Weight} → Left net labels w u q → List·Memᴰ q (stored labels w u)
       held (arrived f none) = absurd (not-same beside (sym f) k)
       held (below l m) = m
-      held (above l m) = absurd (not-both beside k l)
+      held (above l m) = absurd (above-one-way beside k l)
 
   -- above it the ancestor has the list
   leaves-above : Above (parentsOf labels) w u → Leaves net labels w u (stored labels u w)
@@ -68,7 +68,7 @@ module _ {net labels : List ℕ} (beside : FilesFit net labels) {w u : ℕ} wher
     where
       held : {q : Weight} → Left net labels w u q → List·Memᴰ q (stored labels u w)
       held (arrived f none) = absurd (not-same beside f k)
-      held (below l m) = absurd (not-both beside k l)
+      held (below l m) = absurd (above-one-way beside k l)
       held (above l m) = m
 
 -- ---- The list that is stored
