@@ -1,4 +1,5 @@
 -- Each way through a batch is one law of `Outcomes`.
+use native.Mathlib.Omega.{arith}
 use borrow.Author.Needs.{needs}
 use Rattle.accepted.proofs.Accepted.{ready-for-queries}
 use Rattle.labels.proofs.Outcomes.{done-no-triples, done-too-many, done-other-places, done-not-accepted, done-answered, batch-triples}
@@ -9,7 +10,7 @@ returns : tie.Need-returns
 returns c = search (done-no-triples)
 
 returns-2 : tie.Need-returns-2
-returns-2 c = search (done-too-many)
+returns-2 c = done-too-many (omega arith) (omega arith)
 
 returns-3 : tie.Need-returns-3
 returns-3 c = search (done-other-places)
