@@ -35,7 +35,13 @@ pub struct Count {
 pub type Junctions = [u32; 1_024];
 /// What is worked out once per call besides the depths.
 type Tables = [u32; 13_312];
-type Marks = [u8; 1_024];
+
+/// A time beside an energy.
+#[repr(C)]
+struct Pair {
+    time: u32,
+    energy: u32,
+}
 
 unsafe extern "C" {
     fn measured_check(
@@ -110,38 +116,24 @@ unsafe extern "C" {
         tables: *const Tables,
         s: usize,
         t: usize,
-        time: u32,
-        units: u32,
+        best: Pair,
         junctions: *mut Junctions,
-        marks: *mut Marks,
     ) -> usize;
 
-    fn measured_list_count(
+    fn measured_list(
         net: *const u8,
         net_length: usize,
         labels: *const u8,
         labels_length: usize,
         depths: *const Junctions,
         tables: *const Tables,
-        s: usize,
-        t: usize,
-    ) -> u32;
-
-    fn measured_list_fill(
-        net: *const u8,
-        net_length: usize,
-        labels: *const u8,
-        labels_length: usize,
-        depths: *const Junctions,
-        tables: *const Tables,
-        s: usize,
-        t: usize,
-        count: u32,
+        s: u32,
+        t: u32,
         times: *mut u32,
         times_length: usize,
         energies: *mut u32,
         energies_length: usize,
-    );
+    ) -> Count;
 }
 
 /// The whole check.
@@ -196,13 +188,12 @@ pub fn limited_join(first: &List, second: &List, limit: u32) -> Best {
     }
 }
 
-/// A set that the check has accepted, with the tables it filled and marks for routes.
+/// A set that the check has accepted, with the tables it filled.
 pub struct Accepted<'a> {
     net: &'a [u8],
     labels: &'a [u8],
     depths: Box<Junctions>,
     tables: Box<Tables>,
-    marks: Box<Marks>,
 }
 
 impl<'a> Accepted<'a> {
@@ -214,7 +205,6 @@ impl<'a> Accepted<'a> {
             labels,
             depths: junctions(),
             tables: Box::new([0; 13_312]),
-            marks: Box::new([0; 1_024]),
         };
         // SAFETY: slices and arrays of their own, of the sizes that the function asks for.
         let number = unsafe {
@@ -257,10 +247,10 @@ impl<'a> Accepted<'a> {
 
     /// The first route of a pair, which the caller has from `answer_all` for the same junctions.
     pub fn route(
-        &mut self,
+        &self,
         s: usize,
         t: usize,
-        (time, units): (u32, u32),
+        (time, energy): (u32, u32),
         junctions: &mut Junctions,
     ) -> usize {
         assert!(self.is_junction(s) && self.is_junction(t));
@@ -275,10 +265,8 @@ impl<'a> Accepted<'a> {
                 &*self.tables,
                 s,
                 t,
-                time,
-                units,
+                Pair { time, energy },
                 junctions,
-                &mut *self.marks,
             )
         }
     }
@@ -287,37 +275,23 @@ impl<'a> Accepted<'a> {
     pub fn list(&self, s: usize, t: usize, times: &mut [u32], energies: &mut [u32]) -> usize {
         assert!(self.is_junction(s) && self.is_junction(t));
         // SAFETY: the tables are those of an accepted set.
-        let count = unsafe {
-            measured_list_count(
+        let answer = unsafe {
+            measured_list(
                 self.net.as_ptr(),
                 self.net.len(),
                 self.labels.as_ptr(),
                 self.labels.len(),
                 &*self.depths,
                 &*self.tables,
-                s,
-                t,
-            )
-        };
-        assert!(count as usize <= times.len().min(energies.len()));
-        // SAFETY: as above, and the count is the one just given and fits.
-        unsafe {
-            measured_list_fill(
-                self.net.as_ptr(),
-                self.net.len(),
-                self.labels.as_ptr(),
-                self.labels.len(),
-                &*self.depths,
-                &*self.tables,
-                s,
-                t,
-                count,
+                s as u32,
+                t as u32,
                 times.as_mut_ptr(),
                 times.len(),
                 energies.as_mut_ptr(),
                 energies.len(),
-            );
-        }
-        count as usize
+            )
+        };
+        assert!(answer.number == 0 || answer.number == 22);
+        answer.count as usize
     }
 }

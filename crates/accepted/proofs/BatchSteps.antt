@@ -54,13 +54,13 @@ module _ {net queries before : List ℕ} where
   pub none-answered : AnsweredTo net queries before before 0
   none-answered = record { one-length = refl; answered = λ k h. absurd (omega arith) }
 
-  -- one triple more, written at its place
+  -- one triple more: the triple asked, and its answer written at its place
   pub one-answered :
-      {now after : List ℕ} {count i at a b c : ℕ} →
-      Triples queries before count → i < count → at ≡ 3 * i → AnsweredTo net queries before now i →
-      Answers net (getD queries at 0) (getD queries (at + 1) 0) (getD queries (at + 2) 0) a b c →
+      {now after : List ℕ} {count i asked at a b c : ℕ} →
+      Triples queries before count → i < count → asked ≡ 3 * i → at ≡ 3 * i → AnsweredTo net queries before now i →
+      Answers net (getD queries asked 0) (getD queries (asked + 1) 0) (getD queries (asked + 2) 0) a b c →
       after ≡ putTriple now at a b c → AnsweredTo net queries before after (i + 1)
-  one-answered {now} {after} {count} {i} {at} {a} {b} {c} triples below is so-far answer put =
+  one-answered {now} {after} {count} {i} {asked} {at} {a} {b} {c} triples below is-asked is so-far answer put =
       record { one-length = ap length put ∙ simp length-set (so-far .one-length); answered = answered }
     where
       room : at + 2 < length now
@@ -69,7 +69,8 @@ module _ {net queries before : List ℕ} where
       same : (k : ℕ) → k ≡ i → TripleAnswered net queries after k
       same k e =
           let f : 3 * k ≡ at = omega arith in
-          rw (f, put) (answers-cast (put-first now at a b c room) (put-second now at a b c room) (put-third now at a b c room) answer)
+          let g : asked ≡ at = omega arith in
+          rw (f, put) (answers-cast (put-first now at a b c room) (put-second now at a b c room) (put-third now at a b c room) (rw g at answer))
 
       earlier : (k : ℕ) → k < i → TripleAnswered net queries after k
       earlier k h =

@@ -11,7 +11,7 @@ use Rattle.network.specs.NetworkFile.{networkOf, junctionsOf}
 use Rattle.lists.specs.Entries.{Weight, times, energies}
 
 module _ (net : List ℕ) (s t : ℕ) (timesBefore energiesBefore : List ℕ) (number count : ℕ) (timesAfter energiesAfter : List ℕ) where
-  -- What Trade-off list answers on an accepted set
+  -- What Trade-off list answers on an accepted set (SCOPE 5.4)
   pub data ListAnswered : Type 0 where
     off-map :
         (junctionsOf net ≤ s) ⊎ (junctionsOf net ≤ t) →

@@ -10,7 +10,7 @@ use Rattle.network.specs.NetworkFile.{networkOf}
 use Rattle.query.specs.Answers.{Answers}
 
 module _ (before : List ℕ) (number time energy count : ℕ) (after : List ℕ) where
-  -- Refused by a number: zeros beside it, and no lent place has changed
+  -- Refused by a number: zeros beside it, and no lent place has changed (SCOPE 4.1)
   pub record RouteRefused (by : ℕ) : Type 0 where
     pub number-is : number ≡ by
     pub no-time : time ≡ 0
@@ -19,7 +19,7 @@ module _ (before : List ℕ) (number time energy count : ℕ) (after : List ℕ)
     pub stays : after ≡ before
 
 module _ (net : List ℕ) (s t limit : ℕ) (before : List ℕ) (number time energy count : ℕ) (after : List ℕ) where
-  -- What Route answers on an accepted set
+  -- What Route answers on an accepted set (SCOPE 5.3)
   pub data RouteAnswered : Type 0 where
     no-answer : Answers net s t limit number time energy → (number ≡ 0 → ⊥) → count ≡ 0 → after ≡ before → RouteAnswered
     no-room :

@@ -1,4 +1,6 @@
--- What the functions of the check, of a batch and of a route leave.
+-- What the functions of the check, of a batch, of a route and of a list leave.
 pub mod Accepting
 pub mod Triples
 pub mod RoutePut
+pub mod ListPut
+pub mod FromCheck

@@ -52,17 +52,18 @@ pub fn answer_all(
 {
     let mut i = 0;
     while i < count {
-        let at = 3 * i;
+        let asked = 3 * i;
+        let written = 3 * i;
         let found = answer(
             net,
             labels,
             depths,
             tables,
-            queries[at],
-            queries[at + 1],
-            queries[at + 2],
+            queries[asked],
+            queries[asked + 1],
+            queries[asked + 2],
         );
-        put_answer(answers, at, found);
+        put_answer(answers, written, found);
         i += 1;
     }
 }

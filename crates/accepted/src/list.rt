@@ -1,14 +1,18 @@
 // Trade-off list on an accepted set: the entries are counted before the first is written, so that a refusal changes nothing lent.
 use crate::ListAnswer;
 use network::header::junctions_of;
-use routes::list::list_count;
-use routes::list::list_fill;
+use query::climbing::between;
+use tradeoffs::list::list_count;
+use tradeoffs::list::list_fill;
 ghost use mathlib.Core.Path.{_≡_};
+ghost use mathlib.Core.Bool.{false};
 ghost use Prim.Native.Nat.{_<_, min};
 ghost use Rattle.network.specs.NetworkFile.{junctionsOf};
 ghost use Rattle.query.specs.working.Prepared.{Prepared};
 ghost use Rattle.accepted.specs.List.{ListAnswered};
 ghost use Rattle.accepted.specs.ListAnswers.{listNumberOf, listCountOf};
+ghost use Rattle.accepted.specs.working.FromCheck.{listFromCheck};
+ghost use Rattle.accepted.specs.working.ListPut.{ListPut, itself};
 
 // "room is the shorter of the two".
 fn shorter(times: usize, energies: usize) -> usize
@@ -18,6 +22,21 @@ fn shorter(times: usize, energies: usize) -> usize
         return times;
     }
     energies
+}
+
+// The list of a junction and itself: the pair of the path that stays there.
+fn list_of_itself(times: &mut [u32], energies: &mut [u32]) -> ListAnswer
+    ensures { λ r.
+        ⌜ ListPut itself (now (times .entry)) (now (energies .entry))
+        (listNumberOf r) (listCountOf r) (now (times .exit)) (now (energies .exit)) ⌝ }
+    ensures { λ r. ⌜ listFromCheck r ≡ false ⌝ }
+{
+    if shorter(times.len(), energies.len()) > 0 {
+        times[0] = 0;
+        energies[0] = 0;
+        return ListAnswer::Listed(1);
+    }
+    ListAnswer::NoRoom
 }
 
 // The list of two junctions of the map.
@@ -36,15 +55,20 @@ fn list_on_map(
     ensures { λ r.
         ⌜ ListAnswered (now (net .entry)) s t (now (times .entry)) (now (energies .entry))
         (listNumberOf r) (listCountOf r) (now (times .exit)) (now (energies .exit)) ⌝ }
+    ensures { λ r. ⌜ listFromCheck r ≡ false ⌝ }
 {
-    let count = list_count(net, labels, depths, tables, s, t);
+    if s == t {
+        return list_of_itself(times, energies);
+    }
+    let lists = between(labels, depths, tables, s, t);
+    let count = list_count(labels, lists);
     if count == 0 {
         return ListAnswer::NotConnected;
     }
     if shorter(times.len(), energies.len()) < count as usize {
         return ListAnswer::NoRoom;
     }
-    list_fill(net, labels, depths, tables, s, t, count, times, energies);
+    list_fill(labels, lists, count, times, energies);
     ListAnswer::Listed(count)
 }
 
@@ -63,6 +87,7 @@ pub fn write_list(
     ensures { λ r.
         ⌜ ListAnswered (now (net .entry)) s t (now (times .entry)) (now (energies .entry))
         (listNumberOf r) (listCountOf r) (now (times .exit)) (now (energies .exit)) ⌝ }
+    ensures { λ r. ⌜ listFromCheck r ≡ false ⌝ }
 {
     let junctions = junctions_of(net);
     if s >= junctions {

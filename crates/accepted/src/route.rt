@@ -1,22 +1,21 @@
 // Route on an accepted set: the answer, then its first route, written once it is known that the lent places are enough.
 use crate::RouteAnswer;
 use crate::filling::fill_first;
-use paths::energy::Energy;
-use paths::seconds::Seconds;
 use query::Answer;
+use query::Pair;
 use query::limited::answer;
 use routes::route::route;
 ghost use mathlib.Core.Path.{_≡_};
+ghost use mathlib.Core.Bool.{false};
 ghost use Prim.Native.Nat.{_<_};
-ghost use lib.ListN.{length};
-ghost use Rattle.paths.specs.Weights.{pair};
 ghost use Rattle.paths.specs.TradeOff.{Skyline};
 ghost use Rattle.network.specs.NetworkFile.{networkOf, junctionsOf};
-ghost use Rattle.network.specs.working.Roads.{Grouped};
 ghost use Rattle.query.specs.working.Prepared.{Prepared};
+ghost use Rattle.reaching.specs.working.Reach.{weightOf};
 ghost use Rattle.accepted.specs.Route.{RouteAnswered};
 ghost use Rattle.accepted.specs.RouteAnswers.{routeNumberOf, routeTimeOf, routeEnergyOf, routeCountOf};
 ghost use Rattle.accepted.specs.working.RoutePut.{RoutePut};
+ghost use Rattle.accepted.specs.working.FromCheck.{routeFromCheck};
 
 // The first route of an unbeaten pair, put into the first of the lent places if they are enough.
 fn put_route(
@@ -26,37 +25,25 @@ fn put_route(
     tables: &[u32; 13312],
     s: usize,
     t: usize,
-    time: Seconds,
-    energy: Energy,
+    best: Pair,
     junctions: &mut [u32],
-    marks: &mut [u8; 1024],
 ) -> RouteAnswer
     requires { ⌜ Prepared (now net) (now labels) (now depths) (now tables) ⌝ }
-    requires { ⌜ Grouped (now net) (now tables) ⌝ }
     requires { ⌜ (s < junctionsOf (now net)) × (t < junctionsOf (now net)) ⌝ }
-    requires { ⌜ Skyline (networkOf (now net)) s t (pair (time .0) (energy .0)) ⌝ }
-    requires { ⌜ length (now marks) ≡ 1024 ⌝ }
+    requires { ⌜ Skyline (networkOf (now net)) s t (weightOf best) ⌝ }
     ensures { λ r.
-        ⌜ RoutePut (now (net .entry)) s t (time .0) (energy .0) (now (junctions .entry))
+        ⌜ RoutePut (now (net .entry)) s t (best .time .0) (best .energy .0) (now (junctions .entry))
         (routeNumberOf r) (routeTimeOf r) (routeEnergyOf r) (routeCountOf r) (now (junctions .exit)) ⌝ }
+    ensures { λ r. ⌜ routeFromCheck r ≡ false ⌝ }
 {
     let mut places: [u32; 1024] = [0; 1024];
-    let count = route(
-        net,
-        labels,
-        depths,
-        tables,
-        s,
-        t,
-        time,
-        energy,
-        &mut places,
-        marks,
-    );
+    let count = route(net, labels, depths, tables, s, t, best, &mut places);
     if count > junctions.len() {
         return RouteAnswer::NoRoom;
     }
     fill_first(&places, count, junctions);
+    let time = best.time;
+    let energy = best.energy;
     RouteAnswer::Routed(time, energy, count as u32)
 }
 
@@ -70,14 +57,12 @@ pub fn answer_route(
     t: u32,
     limit: u32,
     junctions: &mut [u32],
-    marks: &mut [u8; 1024],
 ) -> RouteAnswer
     requires { ⌜ Prepared (now net) (now labels) (now depths) (now tables) ⌝ }
-    requires { ⌜ Grouped (now net) (now tables) ⌝ }
-    requires { ⌜ length (now marks) ≡ 1024 ⌝ }
     ensures { λ r.
         ⌜ RouteAnswered (now (net .entry)) s t limit (now (junctions .entry))
         (routeNumberOf r) (routeTimeOf r) (routeEnergyOf r) (routeCountOf r) (now (junctions .exit)) ⌝ }
+    ensures { λ r. ⌜ routeFromCheck r ≡ false ⌝ }
 {
     let found = answer(net, labels, depths, tables, s, t, limit);
     match found {
@@ -88,10 +73,11 @@ pub fn answer_route(
             tables,
             s as usize,
             t as usize,
-            time,
-            energy,
+            Pair {
+                time: time,
+                energy: energy,
+            },
             junctions,
-            marks,
         ),
         Answer::OffMap => RouteAnswer::OffMap,
         Answer::NotConnected => RouteAnswer::NotConnected,

@@ -209,6 +209,10 @@ pub accepted-route :
 accepted-route check (Routed.not-accepted c n r) = absurd (n (check-unique c check))
 accepted-route check (Routed.answered c a) = a
 
+-- no triple is refused by 24
+reasons-roomy : {number : ℕ} → (number ≡ 0) ⊎ ((number ≡ 21) ⊎ ((number ≡ 22) ⊎ (number ≡ 23))) → number ≡ 24 → ⊥
+reasons-roomy reasons z = ⊎-elim (λ e. omega arith) (λ r. ⊎-elim (λ e. omega arith) (λ q. ⊎-elim (λ e. omega arith) (λ e. omega arith) q) r) reasons
+
 module _ {net before after : List ℕ} {s t limit number time energy count : ℕ} where
   -- without lack of room the route's answer is the triple's
   pub route-answers : RouteAnswered net s t limit before number time energy count after → (number ≡ 24 → ⊥) → Answers net s t limit number time energy
@@ -222,6 +226,46 @@ module _ {net before after : List ℕ} {s t limit number time energy count : ℕ
   route-first (RouteAnswered.no-answer a n k l) z = absurd (n z)
   route-first (RouteAnswered.no-room a first short r) z = absurd (omega (arith, r .number-is))
   route-first (RouteAnswered.routed {route} a first fits e k l) z = (route, first, k, l)
+
+  -- a number other than 24 is the triple's, and where room is missing the triple has an answer
+  route-number :
+      {other : ℕ} {P : Type 0} → (other ≡ 24 → ⊥) → (other ≡ 0 → ⊥) → RouteAnswered net s t limit before number time energy count after →
+      ((given time′ energy′ : ℕ) → Answers net s t limit given time′ energy′ → (given ≡ other) ↔ P) → (number ≡ other) ↔ P
+  route-number roomy some (RouteAnswered.no-answer a n k l) exactly = exactly _ _ _ a
+  route-number roomy some (RouteAnswered.no-room a first short r) exactly =
+      ((λ z. absurd (roomy (sym z ∙ r .number-is))), λ p. absurd (some (sym (exactly _ _ _ a .1 p))))
+  route-number roomy some (RouteAnswered.routed a first fits e k l) exactly =
+      ((λ z. absurd (some (sym z ∙ e))), λ p. absurd (some (sym (exactly _ _ _ a .1 p))))
+
+  pub route-over :
+      RouteAnswered net s t limit before number time energy count after → (number ≡ 23) ↔ ((s < junctionsOf net) × (t < junctionsOf net) × Over (networkOf net) s t limit)
+  route-over done = route-number (λ z. omega arith) (λ z. omega arith) done (λ given time′ energy′ a. answer-over a)
+
+  pub route-apart :
+      RouteAnswered net s t limit before number time energy count after → (number ≡ 22) ↔ ((s < junctionsOf net) × (t < junctionsOf net) × Apart (networkOf net) s t)
+  route-apart done = route-number (λ z. omega arith) (λ z. omega arith) done (λ given time′ energy′ a. answer-apart a)
+
+  pub route-off-map :
+      RouteAnswered net s t limit before number time energy count after → (number ≡ 21) ↔ ((junctionsOf net ≤ s) ⊎ (junctionsOf net ≤ t))
+  route-off-map done = route-number (λ z. omega arith) (λ z. omega arith) done (λ given time′ energy′ a. answer-off-map a)
+
+  pub route-reasons :
+      RouteAnswered net s t limit before number time energy count after →
+      (number ≡ 0) ⊎ ((number ≡ 21) ⊎ ((number ≡ 22) ⊎ ((number ≡ 23) ⊎ (number ≡ 24))))
+  route-reasons (RouteAnswered.no-answer a n k l) =
+      ⊎-elim inl (λ z. inr (⊎-elim inl (λ y. inr (⊎-elim inl (λ x. inr (inl x)) y)) z)) (answer-reasons a)
+  route-reasons (RouteAnswered.no-room a first short r) = inr (inr (inr (inr (r .number-is))))
+  route-reasons (RouteAnswered.routed a first fits e k l) = inl e
+
+  -- 24 says that the triple is answered, and by a route that is too long
+  pub route-no-room :
+      {labels : List ℕ} → Checked net labels 0 → RouteAnswered net s t limit before number time energy count after → number ≡ 24 →
+      (bestTime : ℕ) × (bestEnergy : ℕ) × (route : List ℕ) × Gives net labels s t limit 0 bestTime bestEnergy ×
+      FirstRoute (networkOf net) s t (pair bestTime bestEnergy) route × (length before < length route)
+  route-no-room check (RouteAnswered.no-answer a n k l) z = absurd (reasons-roomy (answer-reasons a) z)
+  route-no-room check (RouteAnswered.no-room {bestTime} {bestEnergy} {route} a first short r) z =
+      (bestTime, bestEnergy, route, answer-given check a, first, short)
+  route-no-room check (RouteAnswered.routed a first fits e k l) z = absurd (omega arith)
 
 -- room is missing exactly if the first route has more junctions than places were lent
 module _ {net : List ℕ} {s t limit bestTime bestEnergy : ℕ} {route : List ℕ}

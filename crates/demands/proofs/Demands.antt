@@ -33,12 +33,17 @@ demand2 net labels =
       over-exactly = λ check gives. law.answer-over (law.given-answer gives);
       apart-exactly = λ check gives. law.answer-apart (law.given-answer gives);
       list-apart-exactly = λ check done. law.list-apart (law.accepted-list check done);
+      route-over-exactly = λ check done. law.route-over (law.accepted-route check done);
+      route-apart-exactly = λ check done. law.route-apart (law.accepted-route check done);
       off-map-exactly = λ check gives. law.answer-off-map (law.given-answer gives);
+      route-off-map-exactly = λ check done. law.route-off-map (law.accepted-route check done);
       list-off-map-exactly = λ check done. law.list-off-map (law.accepted-list check done);
       batch-number-exactly = λ check done. law.batch-number check done;
       route-room-exactly = λ check done first best. law.route-room first (law.given-answer best) (law.accepted-route check done);
+      route-no-room = λ check done. law.route-no-room check (law.accepted-route check done);
       list-room-exactly = λ check done right on on′ some. law.list-room right on on′ some (law.accepted-list check done);
       only-reasons = λ check gives. law.answer-reasons (law.given-answer gives);
+      route-only-reasons = λ check done. law.route-reasons (law.accepted-route check done);
       list-only-reasons = λ check done. law.list-reasons (law.accepted-list check done);
     }
 

@@ -139,10 +139,22 @@ pub record Demand2 (net labels : List ℕ) : Type 0 where
       {timesBefore energiesBefore timesAfter energiesAfter : List ℕ} {s t number count : ℕ} → Checked net labels 0 →
       Listed net labels s t timesBefore energiesBefore number count timesAfter energiesAfter →
       (number ≡ 22) ↔ ((s < junctionsOf net) × (t < junctionsOf net) × Apart (networkOf net) s t)
+  -- Route refuses a triple by its number for the same reasons
+  pub route-over-exactly :
+      {before after : List ℕ} {s t limit number time energy count : ℕ} → Checked net labels 0 → Routed net labels s t limit before number time energy count after →
+      (number ≡ 23) ↔ ((s < junctionsOf net) × (t < junctionsOf net) × Over (networkOf net) s t limit)
+  pub route-apart-exactly :
+      {before after : List ℕ} {s t limit number time energy count : ℕ} → Checked net labels 0 → Routed net labels s t limit before number time energy count after →
+      (number ≡ 22) ↔ ((s < junctionsOf net) × (t < junctionsOf net) × Apart (networkOf net) s t)
   -- Other reasons: a junction off the map
   pub off-map-exactly :
       {s t limit number time energy : ℕ} → Checked net labels 0 → Gives net labels s t limit number time energy →
       (number ≡ 21) ↔ ((junctionsOf net ≤ s) ⊎ (junctionsOf net ≤ t))
+  -- the same for Route
+  pub route-off-map-exactly :
+      {before after : List ℕ} {s t limit number time energy count : ℕ} → Checked net labels 0 → Routed net labels s t limit before number time energy count after →
+      (number ≡ 21) ↔ ((junctionsOf net ≤ s) ⊎ (junctionsOf net ≤ t))
+  -- and for Trade-off list
   pub list-off-map-exactly :
       {timesBefore energiesBefore timesAfter energiesAfter : List ℕ} {s t number count : ℕ} → Checked net labels 0 →
       Listed net labels s t timesBefore energiesBefore number count timesAfter energiesAfter →
@@ -156,6 +168,11 @@ pub record Demand2 (net labels : List ℕ) : Type 0 where
       Routed net labels s t limit before number time energy count after →
       FirstRoute (networkOf net) s t (pair bestTime bestEnergy) route → Gives net labels s t limit 0 bestTime bestEnergy →
       (number ≡ 24) ↔ (length before < length route)
+  -- and 24 is given for no other reason: there is an answer, and its first route is too long
+  pub route-no-room :
+      {before after : List ℕ} {s t limit number time energy count : ℕ} → Checked net labels 0 → Routed net labels s t limit before number time energy count after → number ≡ 24 →
+      (bestTime : ℕ) × (bestEnergy : ℕ) × (route : List ℕ) × Gives net labels s t limit 0 bestTime bestEnergy ×
+      FirstRoute (networkOf net) s t (pair bestTime bestEnergy) route × (length before < length route)
   -- a list with more entries than the shorter slice has places
   pub list-room-exactly :
       {timesBefore energiesBefore timesAfter energiesAfter : List ℕ} {list : List Weight} {s t number count : ℕ} → Checked net labels 0 →
@@ -166,6 +183,11 @@ pub record Demand2 (net labels : List ℕ) : Type 0 where
   pub only-reasons :
       {s t limit number time energy : ℕ} → Checked net labels 0 → Gives net labels s t limit number time energy →
       (number ≡ 0) ⊎ ((number ≡ 21) ⊎ ((number ≡ 22) ⊎ (number ≡ 23)))
+  -- nor has Route any but these
+  pub route-only-reasons :
+      {before after : List ℕ} {s t limit number time energy count : ℕ} → Checked net labels 0 → Routed net labels s t limit before number time energy count after →
+      (number ≡ 0) ⊎ ((number ≡ 21) ⊎ ((number ≡ 22) ⊎ ((number ≡ 23) ⊎ (number ≡ 24))))
+  -- nor Trade-off list
   pub list-only-reasons :
       {timesBefore energiesBefore timesAfter energiesAfter : List ℕ} {s t number count : ℕ} → Checked net labels 0 →
       Listed net labels s t timesBefore energiesBefore number count timesAfter energiesAfter →

@@ -3,3 +3,4 @@ pub mod Outcomes
 pub mod BatchUnique
 pub mod RouteUnique
 pub mod ListUnique
+pub mod PartUnique

@@ -1,19 +1,34 @@
 -- The ways through the calls: misshapen or refused by the check, else what an accepted set answers.
--- In this order: the shape of a batch; Batch; Route; Trade-off list.
+-- In this order: the shape of a batch; Batch; which case an answer is; Route and Trade-off list; Show's part.
 use mathlib.Core.Path.{_≡_, refl, sym, _∙_}
+use mathlib.Core.Bool.{false, false≢true}
 use mathlib.Core.List.{List}
-use Prim.Native.Nat.{ℕ, _/_, _%_, _≤_, _<_}
+use Prim.Native.Nat.{ℕ, _-_, _/_, _%_, _≤_, _<_}
 use native.Mathlib.Omega.{arith}
 use lib.ListN.{length}
 use borrow.Author.Tests.{eq-eqb, ne-eqb, le-leb, lt-leb}
+use Rattle.stored.specs.Stored.{listPlace}
+use Rattle.stored.proofs.Places.{list-takes}
+use Rattle.files.specs.working.Span.{Spans, SpanFound}
+use Rattle.files.proofs.ShowLaws.{span-shown}
+use Rattle.accepted.specs.declared.RouteAnswer.{RouteAnswer}
+use Rattle.accepted.specs.declared.RouteAnswer.the-variants as route
+use Rattle.accepted.specs.declared.ListAnswer.{ListAnswer}
+use Rattle.accepted.specs.declared.ListAnswer.the-variants as list
+use Rattle.accepted.specs.Check.{Checked}
 use Rattle.accepted.specs.Route.{RouteAnswered}
+use Rattle.accepted.specs.RouteAnswers.{routeNumberOf, routeTimeOf, routeEnergyOf, routeCountOf, RouteCase}
 use Rattle.accepted.specs.List.{ListAnswered}
+use Rattle.accepted.specs.ListAnswers.{listNumberOf, listCountOf, ListCase}
 use Rattle.accepted.specs.working.Accepting.{Accepting}
+use Rattle.accepted.specs.working.FromCheck.{routeFromCheck, listFromCheck}
 use Rattle.accepted.specs.working.Triples.{AnsweredTo, Triples}
 use Rattle.accepted.proofs.Accepted.{check-passed}
+use Rattle.accepted.proofs.CheckNumbers.{check-refused}
 use Rattle.labels.specs.Batch.{shapeNumber, BatchDone, misshapen, not-accepted, answered}
-use Rattle.labels.specs.Route.{Routed}
-use Rattle.labels.specs.List.{Listed}
+use Rattle.labels.specs.Route.{Routed, RouteDone}
+use Rattle.labels.specs.List.{Listed, ListDone}
+use Rattle.labels.specs.Part.{PartShown}
 
 -- ---- The shape of a batch
 
@@ -66,25 +81,76 @@ module _ {net labels queries before : List ℕ} where
     done-answered accepting none all =
         answered (shaped queries before h k e) (check-passed accepting none) refl (all .one-length) (λ i below. all .answered i (omega arith))
 
+-- ---- Which case an answer is
+
+module _ {net labels : List ℕ} (passed : Checked net labels 0) where
+  -- an answer that is not the check's is one of an accepted set
+  route-case : (answer : RouteAnswer) → routeFromCheck answer ≡ false → RouteCase net labels answer
+  route-case (route.Routed time energy count) own = passed
+  route-case (route.NotAccepted number) own = absurd (false≢true (sym own))
+  route-case route.OffMap own = passed
+  route-case route.NotConnected own = passed
+  route-case route.OverLimit own = passed
+  route-case route.NoRoom own = passed
+
+  list-case : (answer : ListAnswer) → listFromCheck answer ≡ false → ListCase net labels answer
+  list-case (list.Listed count) own = passed
+  list-case (list.NotAccepted number) own = absurd (false≢true (sym own))
+  list-case list.OffMap own = passed
+  list-case list.NotConnected own = passed
+  list-case list.NoRoom own = passed
+
 -- ---- Route and Trade-off list
 
 module _ {net labels depths tables : List ℕ} {number : ℕ} (accepting : Accepting net labels number depths tables) where
-  pub route-not-accepted : {before : List ℕ} {s t limit : ℕ} → (number ≡ 0 → ⊥) → Routed net labels s t limit before number 0 0 0 before
+  pub route-not-accepted :
+      {before : List ℕ} {s t limit : ℕ} → (number ≡ 0 → ⊥) → RouteDone net labels s t limit before (route.NotAccepted number) before
   route-not-accepted some =
-      Routed.not-accepted (accepting .checked) some
-      (record { number-is = refl; no-time = refl; no-energy = refl; no-count = refl; stays = refl })
+      record {
+        gives =
+            Routed.not-accepted (accepting .checked) some
+            (record { number-is = refl; no-time = refl; no-energy = refl; no-count = refl; stays = refl });
+        case-is = check-refused (accepting .checked) some;
+      }
 
   pub route-answered :
-      {before after : List ℕ} {s t limit given time energy count : ℕ} → number ≡ 0 → RouteAnswered net s t limit before given time energy count after →
-      Routed net labels s t limit before given time energy count after
-  route-answered none = Routed.answered (check-passed accepting none)
+      {before after : List ℕ} {s t limit : ℕ} {answer : RouteAnswer} → number ≡ 0 →
+      RouteAnswered net s t limit before (routeNumberOf answer) (routeTimeOf answer) (routeEnergyOf answer) (routeCountOf answer) after →
+      routeFromCheck answer ≡ false → RouteDone net labels s t limit before answer after
+  route-answered {answer = answer} none gives own =
+      let passed = check-passed accepting none in
+      record { gives = Routed.answered passed gives; case-is = route-case passed answer own }
 
-  pub list-not-accepted : {times energies : List ℕ} {s t : ℕ} → (number ≡ 0 → ⊥) → Listed net labels s t times energies number 0 times energies
+  pub list-not-accepted :
+      {times energies : List ℕ} {s t : ℕ} → (number ≡ 0 → ⊥) → ListDone net labels s t times energies (list.NotAccepted number) times energies
   list-not-accepted some =
-      Listed.not-accepted (accepting .checked) some (record { number-is = refl; no-count = refl; times-stay = refl; energies-stay = refl })
+      record {
+        gives =
+            Listed.not-accepted (accepting .checked) some (record { number-is = refl; no-count = refl; times-stay = refl; energies-stay = refl });
+        case-is = check-refused (accepting .checked) some;
+      }
 
   pub list-answered :
-      {timesBefore energiesBefore timesAfter energiesAfter : List ℕ} {s t given count : ℕ} → number ≡ 0 →
-      ListAnswered net s t timesBefore energiesBefore given count timesAfter energiesAfter →
-      Listed net labels s t timesBefore energiesBefore given count timesAfter energiesAfter
-  list-answered none = Listed.answered (check-passed accepting none)
+      {timesBefore energiesBefore timesAfter energiesAfter : List ℕ} {s t : ℕ} {answer : ListAnswer} → number ≡ 0 →
+      ListAnswered net s t timesBefore energiesBefore (listNumberOf answer) (listCountOf answer) timesAfter energiesAfter →
+      listFromCheck answer ≡ false → ListDone net labels s t timesBefore energiesBefore answer timesAfter energiesAfter
+  list-answered {answer = answer} none gives own =
+      let passed = check-passed accepting none in
+      record { gives = Listed.answered passed gives; case-is = list-case passed answer own }
+
+-- ---- Show's part
+
+-- a span as a place and a length: where some byte is shown the place is the list's, else it is 0
+pub part-shown :
+    {labels : List ℕ} {v u start end : ℕ} → SpanFound labels v u start end → PartShown labels v u start (end - start)
+part-shown {labels} {v} {u} {start} {end} found =
+    record {
+      shown = span-shown found refl;
+      inside = omega (arith, found .rises, found .inside);
+      place = λ some. pick (found .spans) .0 some;
+      empty = λ none-shown. pick (found .spans) .1 none-shown;
+    }
+  where
+    pick : Spans labels v u start end → (1 ≤ end - start → start ≡ listPlace labels v u) × (end - start ≡ 0 → start ≡ 0)
+    pick (Spans.none h from to) = ((λ some. absurd (omega arith)), λ z. from)
+    pick (Spans.list h from to) = ((λ some. from), λ z. absurd (omega (arith, list-takes labels (listPlace labels v u))))

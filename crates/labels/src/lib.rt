@@ -16,11 +16,16 @@ ghost use Rattle.joins.specs.Answers.{Join, LimitedJoin, joinNumberOf, joinCoun
 ghost use Rattle.stored.specs.Stored.{listPlace};
 ghost use Rattle.files.specs.Shown.{Shown};
 ghost use Rattle.accepted.specs.Check.{Checked};
-ghost use Rattle.accepted.specs.RouteAnswers.{routeNumberOf, routeTimeOf, routeEnergyOf, routeCountOf};
-ghost use Rattle.accepted.specs.ListAnswers.{listNumberOf, listCountOf};
 ghost use Rattle.labels.specs.Batch.{BatchDone};
-ghost use Rattle.labels.specs.Route.{Routed};
-ghost use Rattle.labels.specs.List.{Listed};
+ghost use Rattle.labels.specs.Route.{RouteDone};
+ghost use Rattle.labels.specs.List.{ListDone};
+ghost use Rattle.labels.specs.Part.{PartShown};
+
+// A part of lent bytes: where it begins, and how many bytes it has.
+pub struct Part {
+    pub at: usize,
+    pub length: usize,
+}
 
 // Check: 0 if the network and the labels are accepted, else the number of the first test that fails (1 to 6, 11 to 18).
 pub fn check(net: &[u8], labels: &[u8]) -> u32
@@ -68,27 +73,15 @@ pub fn route(
     junctions: &mut [u32],
 ) -> RouteAnswer
     ensures { λ r.
-        ⌜ Routed (now (net .entry)) (now (labels .entry)) s t limit (now (junctions .entry))
-        (routeNumberOf r) (routeTimeOf r) (routeEnergyOf r) (routeCountOf r) (now (junctions .exit)) ⌝ }
+        ⌜ RouteDone (now (net .entry)) (now (labels .entry)) s t limit (now (junctions .entry)) r (now (junctions .exit)) ⌝ }
 {
     let mut depths: [u32; 1024] = [0; 1024];
     let mut tables: [u32; 13312] = [0; 13312];
-    let mut marks: [u8; 1024] = [0; 1024];
     let number = accept(net, labels, &mut depths, &mut tables);
     if number != 0 {
         return RouteAnswer::NotAccepted(number);
     }
-    answer_route(
-        net,
-        labels,
-        &depths,
-        &tables,
-        s,
-        t,
-        limit,
-        junctions,
-        &mut marks,
-    )
+    answer_route(net, labels, &depths, &tables, s, t, limit, junctions)
 }
 
 // Trade-off list: every pair of s and t that no path's pair beats, energy rising, into the first places of two lent slices; how many,
@@ -102,8 +95,8 @@ pub fn list(
     energies: &mut [u32],
 ) -> ListAnswer
     ensures { λ r.
-        ⌜ Listed (now (net .entry)) (now (labels .entry)) s t (now (times .entry)) (now (energies .entry))
-        (listNumberOf r) (listCountOf r) (now (times .exit)) (now (energies .exit)) ⌝ }
+        ⌜ ListDone (now (net .entry)) (now (labels .entry)) s t (now (times .entry)) (now (energies .entry)) r
+        (now (times .exit)) (now (energies .exit)) ⌝ }
 {
     let mut depths: [u32; 1024] = [0; 1024];
     let mut tables: [u32; 13312] = [0; 13312];
@@ -159,4 +152,17 @@ pub fn show(labels: &[u8], v: u32, u: u32) -> &[u8]
     ensures { λ r. ⌜ (1 ≤ length (now r) → r .ptr ≡ (labels .entry .ptr .0, listPlace (now (labels .entry)) v u + labels .entry .ptr .1)) ⌝ }
 {
     files::show::show(labels, v, u)
+}
+
+// Show, for a caller who cannot be handed a part: its place and its length in the labels lent; an empty part is at 0.
+pub fn show_part(labels: &[u8], v: u32, u: u32) -> Part
+    ensures { λ r. ⌜ PartShown (now (labels .entry)) v u (r .at) (r .length) ⌝ }
+{
+    let span = files::show::span_of(labels, v, u);
+    let start = span.start;
+    let end = span.end;
+    Part {
+        at: start,
+        length: end - start,
+    }
 }

@@ -1,3 +1,2 @@
--- Why the C functions give what the calls state, and that Show's part has one place and one length.
+-- Why the C functions give what the calls state.
 pub mod Passed
-pub mod PartUnique

@@ -12,7 +12,7 @@ ghost use Rattle.labels.specs.Route.{Routed};
 ghost use Rattle.accepted.specs.RouteAnswers.{routeNumberOf, routeTimeOf, routeEnergyOf, routeCountOf};
 ghost use Rattle.labels.specs.List.{Listed};
 ghost use Rattle.accepted.specs.ListAnswers.{listNumberOf, listCountOf};
-ghost use Rattle.labels_c.specs.Part.{PartShown};
+ghost use Rattle.labels.specs.Part.{PartShown};
 
 #[repr(C)]
 pub struct Best {
@@ -236,11 +236,11 @@ pub extern "C" fn bushelvane_limited_join(
 pub extern "C" fn bushelvane_show(labels: &[u8], v: u32, u: u32) -> Part
     ensures { λ r. ⌜ PartShown (now (labels .entry)) v u (r .at) (r .length) ⌝ }
 {
-    let span = files::show::span_of(labels, v, u);
-    let start = span.start;
-    let end = span.end;
+    let part = labels::show_part(labels, v, u);
+    let at = part.at;
+    let length = part.length;
     Part {
-        at: start,
-        length: end - start,
+        at: at,
+        length: length,
     }
 }

@@ -1,6 +1,8 @@
 // What bench/ measures, exported to Rust. Each function hands its arguments on, so its time is that of the function measured.
+use accepted::ListAnswer;
 use accepted::accept::accept;
 use accepted::batch::answer_all;
+use accepted::list::write_list;
 use files::form::labels_number;
 use joins::JoinAnswer;
 use joins::SumAnswer;
@@ -10,28 +12,25 @@ use network::network::net_number;
 use network::versions::version_one;
 use paths::energy::Energy;
 use paths::seconds::Seconds;
-use routes::list::list_count;
-use routes::list::list_fill;
+use query::Pair;
 use routes::route::route;
 ghost use mathlib.Core.Path.{_≡_};
-ghost use mathlib.Core.List.{List};
-ghost use Prim.Native.Nat.{_≤_, _<_};
+ghost use Prim.Native.Nat.{_<_};
 ghost use Rattle.tables.specs.working.Layout.{tablePlaces};
 ghost use lib.ListN.{length};
 ghost use Rattle.paths.specs.Weights.{pair};
-ghost use Rattle.paths.specs.TradeOff.{Skyline, IsTradeOff};
+ghost use Rattle.paths.specs.TradeOff.{Skyline};
 ghost use Rattle.network.specs.NetworkFile.{junctionsOf, networkOf};
-ghost use Rattle.lists.specs.Entries.{Weight};
 ghost use Rattle.joins.specs.Answers.{Join, LimitedJoin};
-ghost use Rattle.network.specs.working.Roads.{Grouped};
 ghost use Rattle.query.specs.working.Prepared.{Prepared};
-ghost use Rattle.routes.specs.working.Written.{RouteFound, ListWritten};
+ghost use Rattle.routes.specs.working.Written.{RouteFound};
 ghost use Rattle.accepted.specs.Check.{Checked};
+ghost use Rattle.accepted.specs.List.{ListAnswered};
 ghost use Rattle.accepted.specs.working.Accepting.{Accepting};
 ghost use Rattle.accepted.specs.working.Triples.{Triples, AnsweredTo};
 ghost use Rattle.measured.specs.working.FormNumber.{FormNumber};
 
-// What Join answers, for a caller in Rust: the number it refuses by and no count, or 0 and the places filled.
+// What Join and Trade-off list answer, for a caller in Rust: the number of a refusal and no count, or 0 and the places filled.
 #[repr(C)]
 pub struct MeasuredCount {
     pub number: u32,
@@ -42,6 +41,13 @@ pub struct MeasuredCount {
 #[repr(C)]
 pub struct MeasuredBest {
     pub number: u32,
+    pub time: u32,
+    pub energy: u32,
+}
+
+// A time beside an energy.
+#[repr(C)]
+pub struct MeasuredPair {
     pub time: u32,
     pub energy: u32,
 }
@@ -204,67 +210,58 @@ pub extern "C" fn measured_route(
     tables: &[u32; 13312],
     s: usize,
     t: usize,
-    time: u32,
-    units: u32,
+    best: MeasuredPair,
     junctions: &mut [u32; 1024],
-    marks: &mut [u8; 1024],
 ) -> usize
     requires { ⌜ Prepared (now net) (now labels) (now depths) (now tables) ⌝ }
-    requires { ⌜ Grouped (now net) (now tables) ⌝ }
     requires { ⌜ (s < junctionsOf (now net)) × (t < junctionsOf (now net)) ⌝ }
-    requires { ⌜ Skyline (networkOf (now net)) s t (pair time units) ⌝ }
-    requires { ⌜ (length (now junctions) ≡ 1024) × (length (now marks) ≡ 1024) ⌝ }
-    ensures { λ r. ⌜ RouteFound (now (net .entry)) s t (pair time units) r (now (junctions .exit)) ⌝ }
+    requires { ⌜ Skyline (networkOf (now net)) s t (pair (best .time) (best .energy)) ⌝ }
+    requires { ⌜ length (now junctions) ≡ 1024 ⌝ }
+    ensures { λ r. ⌜ RouteFound (now (net .entry)) s t (pair (best .time) (best .energy)) r (now (junctions .exit)) ⌝ }
 {
-    route(
-        net,
-        labels,
-        depths,
-        tables,
-        s,
-        t,
-        Seconds(time),
-        Energy(units),
-        junctions,
-        marks,
-    )
+    let whole = Pair {
+        time: Seconds(best.time),
+        energy: Energy(best.energy),
+    };
+    route(net, labels, depths, tables, s, t, whole, junctions)
 }
 
-// How many entries the trade-off list of two junctions has.
+// The whole trade-off list of two junctions, counted and then written.
 #[no_mangle]
-pub extern "C" fn measured_list_count(
+pub extern "C" fn measured_list(
     net: &[u8],
     labels: &[u8],
     depths: &[u32; 1024],
     tables: &[u32; 13312],
-    s: usize,
-    t: usize,
-) -> u32
-    requires { ⌜ Prepared (now net) (now labels) (now depths) (now tables) ⌝ }
-    requires { ⌜ (s < junctionsOf (now labels)) × (t < junctionsOf (now labels)) ⌝ }
-    ensures { λ r. ⌜ ((l : List Weight) → IsTradeOff (networkOf (now (net .entry))) s t l → r ≡ length l) ⌝ }
-{
-    list_count(net, labels, depths, tables, s, t)
-}
-
-// The list itself, whose count comes from the function above, into slices that have room for it.
-#[no_mangle]
-pub extern "C" fn measured_list_fill(
-    net: &[u8],
-    labels: &[u8],
-    depths: &[u32; 1024],
-    tables: &[u32; 13312],
-    s: usize,
-    t: usize,
-    count: u32,
+    s: u32,
+    t: u32,
     times: &mut [u32],
     energies: &mut [u32],
-)
+) -> MeasuredCount
     requires { ⌜ Prepared (now net) (now labels) (now depths) (now tables) ⌝ }
-    requires { ⌜ (s < junctionsOf (now labels)) × (t < junctionsOf (now labels)) ⌝ }
-    requires { ⌜ ((l : List Weight) → IsTradeOff (networkOf (now net)) s t l → count ≡ length l) ⌝ }
-    requires { ⌜ (count ≤ length (now times)) × (count ≤ length (now energies)) ⌝ }
-    ensures { λ _. ⌜ ListWritten (now (net .entry)) s t (now (times .entry)) (now (energies .entry)) count (now (times .exit)) (now (energies .exit)) ⌝ }
+    ensures { λ r.
+        ⌜ ListAnswered (now (net .entry)) s t (now (times .entry)) (now (energies .entry)) (r .number) (r .count) (now (times .exit)) (now (energies .exit)) ⌝ }
 {
-    list_fill(net, labels, depths, tables, s, t, count, times, energies);
+    match write_list(net, labels, depths, tables, s, t, times, energies) {
+        ListAnswer::Listed(count) => MeasuredCount {
+            number: 0,
+            count: count,
+        },
+        ListAnswer::NotAccepted(number) => MeasuredCount {
+            number: number,
+            count: 0,
+        },
+        ListAnswer::OffMap => MeasuredCount {
+            number: 21,
+            count: 0,
+        },
+        ListAnswer::NotConnected => MeasuredCount {
+            number: 22,
+            count: 0,
+        },
+        ListAnswer::NoRoom => MeasuredCount {
+            number: 24,
+            count: 0,
+        },
+    }
 }

@@ -1,5 +1,5 @@
 -- Two climbs side by side, each list place with its ancestor. In this order: one climb; two climbs; climbs from the table of depths.
-use mathlib.Core.Path.{_≡_, refl, sym, ap, _∙_}
+use mathlib.Core.Path.{_≡_, sym, ap, _∙_}
 use mathlib.Core.Logic.{_⊎_, inl, inr, ⊎-elim}
 use mathlib.Core.List.{List}
 use Prim.Native.Nat.{ℕ, suc, _+_, _-_, _*_, _≤_, _<_}
@@ -14,97 +14,90 @@ use Rattle.forest.specs.Forest.{depthOf, ancestorOf}
 use Rattle.forest.specs.working.Fits.{DepthsFilled}
 use Rattle.forest.proofs.Chains.{ancestor-none, ancestor-more, Climbed, climbed}
 use Rattle.forest.proofs.Forest.{ancestor-at, ancestor-is-up, above-is-up}
-use Rattle.stored.specs.Stored.{placeOf, listPlace}
+use Rattle.stored.specs.Stored.{placeOf}
 use Rattle.stored.specs.working.Formed.{Formed, StartsFilled, ListFits}
 use Rattle.hoplinks.proofs.Branches.{no-deeper, stays-above}
 use Rattle.query.specs.declared.Between.{Between}
 use Rattle.query.specs.declared.climbing.Climb.{Climb}
-use Rattle.query.specs.working.Levels.{behind}
 use Rattle.query.specs.working.Between.{Climbs, Steps, Abreast, ListsBetween, Leads}
 use Rattle.query.proofs.ListPlaces.{count-stands}
-use Rattle.query.proofs.MarkedSums.{level-next, level-fits, level-place}
+use Rattle.query.proofs.MarkedSums.{level-next, level-fits}
 
 -- ---- One climb
 
 -- it starts at the junction and its first list
 pub climb-starts :
-    {s tables : List ℕ} {v : ℕ} {climb : Climb} → StartsFilled s tables → v < junctionsOf s → climb .from ≡ v → climb .up ≡ v →
-    climb .at ≡ getD tables (startsFrom + v) 0 → Climbs s v (depthOf s v - 0) climb
-climb-starts {s} {v = v} filled on-map of up at =
-    let none : depthOf s v - (depthOf s v - 0) ≡ 0 = omega arith in
+    {labels tables : List ℕ} {v : ℕ} {climb : Climb} → StartsFilled labels tables → v < junctionsOf labels → climb .from ≡ v → climb .up ≡ v →
+    climb .at ≡ getD tables (startsFrom + v) 0 → Climbs labels v (depthOf labels v - 0) climb
+climb-starts {labels} {v = v} filled on-map of up at =
+    let none : depthOf labels v - (depthOf labels v - 0) ≡ 0 = omega arith in
     record {
       of = of;
       on-map = on-map;
       no-deeper = omega arith;
-      up = record { is = rw none (up ∙ sym (ancestor-none s v)); on-map = rw up on-map };
-      place = at ∙ filled .start v on-map ∙ ap (placeOf s) (omega arith);
+      up = record { is = rw none (up ∙ sym (ancestor-none labels v)); on-map = rw up on-map };
+      place = at ∙ filled .start v on-map ∙ ap (placeOf labels) (omega arith);
     }
 
 -- two climbs of junctions under equal names
 abreast-of :
-    {s : List ℕ} {x y x′ y′ level : ℕ} {near far : Climb} → x′ ≡ x → y′ ≡ y → Abreast s x y level near far → Abreast s x′ y′ level near far
+    {labels : List ℕ} {x y x′ y′ level : ℕ} {near far : Climb} → x′ ≡ x → y′ ≡ y → Abreast labels x y level near far → Abreast labels x′ y′ level near far
 abreast-of e f now = rw (e, f) now
 
-module _ {s : List ℕ} (formed : Formed s) where
-  module _ {v level : ℕ} {climb : Climb} (now : Climbs s v level climb) where
+module _ {labels : List ℕ} (formed : Formed labels) where
+  module _ {v level : ℕ} {climb : Climb} (now : Climbs labels v level climb) where
     -- where it is
-    climb-at : Climbed s v (depthOf s v - level) (climb .up)
-    climb-at = rw (now .up .is) (climbed (formed .parents) (depthOf s v - level) v (now .on-map) (omega arith))
+    climb-at : Climbed labels v (depthOf labels v - level) (climb .up)
+    climb-at = rw (now .up .is) (climbed (formed .parents) (depthOf labels v - level) v (now .on-map) (omega arith))
 
-    pub climb-depth : depthOf s (climb .up) ≡ level
+    pub climb-depth : depthOf labels (climb .up) ≡ level
     climb-depth = omega (arith, climb-at .depth, now .no-deeper)
 
-    climb-ancestor : Ancestor (parentsOf s) (climb .up) v
-    climb-ancestor = rw (now .up .is) (ancestor-is-up (formed .parents) (depthOf s v - level) v (now .on-map) (omega arith))
+    climb-ancestor : Ancestor (parentsOf labels) (climb .up) v
+    climb-ancestor = rw (now .up .is) (ancestor-is-up (formed .parents) (depthOf labels v - level) v (now .on-map) (omega arith))
 
     -- an ancestor of its depth is the one
-    climb-only : {u : ℕ} → Ancestor (parentsOf s) u v → depthOf s u ≡ level → u ≡ climb .up
-    climb-only up e = sym (ancestor-at (formed .parents) (now .on-map) up .is) ∙ ap (λ k. ancestorOf s v (depthOf s v - k)) e ∙ sym (now .up .is)
+    climb-only : {u : ℕ} → Ancestor (parentsOf labels) u v → depthOf labels u ≡ level → u ≡ climb .up
+    climb-only up e = sym (ancestor-at (formed .parents) (now .on-map) up .is) ∙ ap (λ k. ancestorOf labels v (depthOf labels v - k)) e ∙ sym (now .up .is)
 
     module _ (deep : 0 < level) where
       -- a step stays in the file
-      pub climb-inside : (18 + 2 * climb .up ≤ length s) × (climb .at + 2 ≤ length s)
+      pub climb-inside : (18 + 2 * climb .up ≤ length labels) × (climb .at + 2 ≤ length labels)
       climb-inside = (omega (arith, now .up .on-map, formed .parents .inside), count-stands list-fits)
         where
-          list-fits : ListFits s (climb .at)
+          list-fits : ListFits labels (climb .at)
           list-fits =
               let e : level ≡ suc (level - 1) = omega arith in
               rw (now .place, e) (level-fits formed (now .on-map) (omega (arith, now .no-deeper)))
 
-  module _ {v level level′ : ℕ} {below above : Climb} (now : Climbs s v level below) (e : level ≡ suc level′) (step : Steps s below above) where
+  module _ {v level level′ : ℕ} {below above : Climb} (now : Climbs labels v level below) (e : level ≡ suc level′) (step : Steps labels below above) where
     -- one step up
-    pub climb-more : Climbs s v level′ above
+    pub climb-more : Climbs labels v level′ above
     climb-more =
         record {
           of = step .of-one ∙ now .of;
           on-map = now .on-map;
           no-deeper = omega (arith, now .no-deeper);
-          up = record { is = up; on-map = rw up (climbed (formed .parents) (depthOf s v - level′) v (now .on-map) (omega arith) .on-map) };
-          place = step .next ∙ rw (now .place, e) (level-next s v level′ (omega (arith, now .no-deeper)));
+          up = record { is = up; on-map = rw up (climbed (formed .parents) (depthOf labels v - level′) v (now .on-map) (omega arith) .on-map) };
+          place = step .next ∙ rw (now .place, e) (level-next labels v level′ (omega (arith, now .no-deeper)));
         }
       where
-        up : above .up ≡ ancestorOf s v (depthOf s v - level′)
+        up : above .up ≡ ancestorOf labels v (depthOf labels v - level′)
         up =
-            step .parent ∙ ap (parentAt s) (now .up .is) ∙ sym (ancestor-more s v (depthOf s v - level)) ∙
-            ap (ancestorOf s v) (omega (arith, now .no-deeper))
+            step .parent ∙ ap (parentAt labels) (now .up .is) ∙ sym (ancestor-more labels v (depthOf labels v - level)) ∙
+            ap (ancestorOf labels v) (omega (arith, now .no-deeper))
 
     -- what it comes to stands above
-    pub step-above : Above (parentsOf s) (above .up) v
+    pub step-above : Above (parentsOf labels) (above .up) v
     step-above =
-        rw (climb-more .up .is) (above-is-up (formed .parents) (depthOf s v - level′) v (now .on-map) (omega (arith, now .no-deeper)) (omega arith))
-
-    -- and the list that is left behind is for it
-    pub step-list : {u : ℕ} → above .up ≡ u → Above (parentsOf s) u v × (below .at ≡ listPlace s v u)
-    step-list {u} is =
-        let deep : depthOf s u ≡ level′ = rw is at (climb-depth climb-more) in
-        (rw is at step-above, now .place ∙ ap (behind s v) e ∙ sym (level-place s v u deep))
+        rw (climb-more .up .is) (above-is-up (formed .parents) (depthOf labels v - level′) v (now .on-map) (omega (arith, now .no-deeper)) (omega arith))
 
   -- ---- Two climbs
 
   -- at the depth of the higher junction
   pub abreast-starts :
-      {x y level : ℕ} {near far : Climb} → Climbs s x level near → Climbs s y level far → (level ≡ depthOf s x) ⊎ (level ≡ depthOf s y) →
-      (near .up ≡ far .up → ⊥) → Abreast s (near .from) (far .from) level near far
+      {x y level : ℕ} {near far : Climb} → Climbs labels x level near → Climbs labels y level far → (level ≡ depthOf labels x) ⊎ (level ≡ depthOf labels y) →
+      (near .up ≡ far .up → ⊥) → Abreast labels (near .from) (far .from) level near far
   abreast-starts one two least apart =
       abreast-of (one .of) (two .of)
       (record {
@@ -119,22 +112,22 @@ module _ {s : List ℕ} (formed : Formed s) where
             least;
       })
 
-  module _ {x y level : ℕ} {near far : Climb} (now : Abreast s x y level near far) where
+  module _ {x y level : ℕ} {near far : Climb} (now : Abreast labels x y level near far) where
     -- no common ancestor is so deep
-    higher : (u : ℕ) → Common (parentsOf s) x y u → depthOf s u < level
-    higher u c = pick (ℕ-discrete (depthOf s u) level)
+    higher : (u : ℕ) → Common (parentsOf labels) x y u → depthOf labels u < level
+    higher u c = pick (ℕ-discrete (depthOf labels u) level)
       where
-        pick : Dec (depthOf s u ≡ level) → depthOf s u < level
+        pick : Dec (depthOf labels u ≡ level) → depthOf labels u < level
         pick (yes e) = absurd (now .apart (sym (climb-only (now .near-climbs) (c .of-start) e) ∙ climb-only (now .far-climbs) (c .of-finish) e))
         pick (no other) = omega (arith, now .highest u c)
 
     -- different roots have nothing above them
-    pub abreast-ends : level ≤ 0 → (u : ℕ) → Common (parentsOf s) x y u → ⊥
+    pub abreast-ends : level ≤ 0 → (u : ℕ) → Common (parentsOf labels) x y u → ⊥
     abreast-ends h u c = omega (arith, higher u c)
 
-    module _ {level′ : ℕ} {near′ far′ : Climb} (e : level ≡ suc level′) (near-step : Steps s near near′) (far-step : Steps s far far′) where
+    module _ {level′ : ℕ} {near′ far′ : Climb} (e : level ≡ suc level′) (near-step : Steps labels near near′) (far-step : Steps labels far far′) where
       -- one step up
-      pub abreast-more : (near′ .up ≡ far′ .up → ⊥) → Abreast s x y level′ near′ far′
+      pub abreast-more : (near′ .up ≡ far′ .up → ⊥) → Abreast labels x y level′ near′ far′
       abreast-more apart =
           record {
             near-climbs = climb-more (now .near-climbs) e near-step;
@@ -144,10 +137,9 @@ module _ {s : List ℕ} (formed : Formed s) where
           }
 
       -- the parents are one: there the branches meet
-      pub abreast-meets : near′ .up ≡ far′ .up → ListsBetween s x y (near .at) (far .at) level
+      pub abreast-meets : near′ .up ≡ far′ .up → ListsBetween labels x y (near .at) (far .at) level (near′ .up)
       abreast-meets met =
           record {
-            meeting = near′ .up;
             meets = record { on-map = one .up .on-map; deepest = record { common = common; below-all = below-all } };
             below-x = step-above (now .near-climbs) e near-step;
             below-y = rw met (step-above (now .far-climbs) e far-step);
@@ -156,63 +148,47 @@ module _ {s : List ℕ} (formed : Formed s) where
             far-is = now .far-climbs .place;
           }
         where
-          one : Climbs s x level′ near′
+          one : Climbs labels x level′ near′
           one = climb-more (now .near-climbs) e near-step
 
-          common : Common (parentsOf s) x y (near′ .up)
+          common : Common (parentsOf labels) x y (near′ .up)
           common = record { of-start = climb-ancestor one; of-finish = rw met (climb-ancestor (climb-more (now .far-climbs) e far-step)) }
 
-          below-all : (u : ℕ) → Common (parentsOf s) x y u → Ancestor (parentsOf s) u (near′ .up)
+          below-all : (u : ℕ) → Common (parentsOf labels) x y u → Ancestor (parentsOf labels) u (near′ .up)
           below-all u c = stays-above (formed .parents) (c .of-start) (common .of-start) (omega (arith, higher u c, climb-depth one))
 
 -- ---- From the table of depths
 
 -- what leads from one pair of junctions leads from the same under other names
-pub leads-of : (s : List ℕ) {x y x′ y′ : ℕ} (r : Between) → x′ ≡ x → y′ ≡ y → Leads s x′ y′ r → Leads s x y r
-leads-of s r e f h = rw (e, f) at h
+pub leads-of : (labels : List ℕ) {x y x′ y′ : ℕ} (r : Between) → x′ ≡ x → y′ ≡ y → Leads labels x′ y′ r → Leads labels x y r
+leads-of labels r e f h = rw (e, f) at h
 
 -- a climb that has not begun is at its junction
-pub climb-own : {s : List ℕ} {v : ℕ} {climb : Climb} → Climbs s v (depthOf s v - 0) climb → climb .up ≡ v
-climb-own {s} {v} now =
-    let none : depthOf s v - (depthOf s v - 0) ≡ 0 = omega arith in
-    now .up .is ∙ rw none (ancestor-none s v)
+pub climb-own : {labels : List ℕ} {v : ℕ} {climb : Climb} → Climbs labels v (depthOf labels v - 0) climb → climb .up ≡ v
+climb-own {labels} {v} now =
+    let none : depthOf labels v - (depthOf labels v - 0) ≡ 0 = omega arith in
+    now .up .is ∙ rw none (ancestor-none labels v)
 
-module _ {s depths : List ℕ} (formed : Formed s) (filled : DepthsFilled s depths) where
+module _ {labels depths : List ℕ} (formed : Formed labels) (filled : DepthsFilled labels depths) where
   -- at the depth that the table has
-  own-level : {v : ℕ} {climb : Climb} → Climbs s v (depthOf s v - 0) climb → Climbs s v (getD depths v 0) climb
-  own-level {v} now = let e : getD depths v 0 ≡ depthOf s v - 0 = omega (arith, filled .depth v (now .on-map)) in rw e now
+  own-level : {v : ℕ} {climb : Climb} → Climbs labels v (depthOf labels v - 0) climb → Climbs labels v (getD depths v 0) climb
+  own-level {v} now = let e : getD depths v 0 ≡ depthOf labels v - 0 = omega (arith, filled .depth v (now .on-map)) in rw e now
 
-  -- v is deeper than u, and its climb goes to just below the depth of u
-  module _ {u v : ℕ} {below : Climb} (u-on-map : u < junctionsOf s) (deeper : getD depths u 0 < getD depths v 0)
-      (climb : Climbs s v (depthOf s v - (getD depths v 0 - getD depths u 0 - 1)) below) where
-    just-below : Climbs s v (suc (getD depths u 0)) below
-    just-below =
-        let e : suc (getD depths u 0) ≡ depthOf s v - (getD depths v 0 - getD depths u 0 - 1) = omega (arith, filled .depth v (climb .on-map)) in
+  -- v is no higher than u, which does not stand above it, and its climb goes to the depth of u
+  module _ {u v : ℕ} {raised own : Climb} (no-higher : getD depths u 0 ≤ getD depths v 0)
+      (climb : Climbs labels v (depthOf labels v - (getD depths v 0 - getD depths u 0)) raised) (own-climb : Climbs labels u (depthOf labels u - 0) own)
+      (beside : Ancestor (parentsOf labels) u v → ⊥) where
+    raised-level : Climbs labels v (getD depths u 0) raised
+    raised-level =
+        let e : getD depths u 0 ≡ depthOf labels v - (getD depths v 0 - getD depths u 0) = omega (arith, filled .depth v (climb .on-map)) in
         rw e climb
 
-    pub raised-inside : (18 + 2 * below .up ≤ length s) × (below .at + 2 ≤ length s)
-    raised-inside = climb-inside formed just-below (omega arith)
+    raised-apart : raised .up ≡ own .up → ⊥
+    raised-apart e = beside (rw (e ∙ climb-own own-climb) at (climb-ancestor formed raised-level))
 
-    module _ {above : Climb} (step : Steps s below above) where
-      -- u is what stands there
-      pub raised-list : above .up ≡ u → Above (parentsOf s) u v × (below .at ≡ listPlace s v u)
-      raised-list = step-list formed just-below refl step
+    -- both climb on, whichever of the two comes first
+    pub raised-near : Abreast labels (raised .from) (own .from) (getD depths u 0) raised own
+    raised-near = abreast-starts formed raised-level (own-level own-climb) (inr (filled .depth u (own-climb .on-map))) raised-apart
 
-      -- it is not: both climb on, whichever of the two comes first
-      module _ {own : Climb} (own-climb : Climbs s u (depthOf s u - 0) own) (apart : above .up ≡ u → ⊥) where
-        pub raised-near : Abreast s (above .from) (own .from) (getD depths u 0) above own
-        raised-near =
-            abreast-starts formed (climb-more formed just-below refl step) (own-level own-climb) (inr (filled .depth u u-on-map)) (λ e. apart (e ∙ climb-own own-climb))
-
-        pub raised-far : Abreast s (own .from) (above .from) (getD depths u 0) own above
-        raised-far =
-            abreast-starts formed (own-level own-climb) (climb-more formed just-below refl step) (inl (filled .depth u u-on-map)) (λ e. apart (sym e ∙ climb-own own-climb))
-
-  -- both are of one depth
-  pub level-abreast :
-      {x y : ℕ} {near far : Climb} → getD depths x 0 ≤ getD depths y 0 → getD depths y 0 ≤ getD depths x 0 → Climbs s x (depthOf s x - 0) near →
-      Climbs s y (depthOf s y - 0) far → (x ≡ y → ⊥) → Abreast s (near .from) (far .from) (getD depths x 0) near far
-  level-abreast {x} {y} {far = far} h g one two apart =
-      let e : getD depths x 0 ≡ getD depths y 0 = omega arith in
-      let beside : Climbs s y (getD depths x 0) far = rw e (own-level two) in
-      abreast-starts formed (own-level one) beside (inl (filled .depth x (one .on-map))) (λ f. apart (sym (climb-own one) ∙ f ∙ climb-own two))
+    pub raised-far : Abreast labels (own .from) (raised .from) (getD depths u 0) own raised
+    raised-far = abreast-starts formed (own-level own-climb) raised-level (inl (filled .depth u (own-climb .on-map))) (λ e. raised-apart (sym e))

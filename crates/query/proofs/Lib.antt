@@ -3,6 +3,8 @@ pub mod ListPlaces
 pub mod BestSums
 pub mod Rows
 pub mod MarkedSums
+pub mod PassLaws
 pub mod ClimbLaws
 pub mod WholeAnswers
+pub mod BlockLaws
 pub mod AnswersUnique

@@ -12,15 +12,15 @@ use Rattle.stored.proofs.Places.{place-next, list-number-of}
 use Rattle.query.specs.working.Levels.{behind}
 
 -- the list for the next ancestor up stands behind
-pub level-next : (s : List ℕ) (v level : ℕ) → level < depthOf s v → listEnd s (behind s v (suc level)) ≡ behind s v level
-level-next s v level h =
-    sym (place-next s (listsBefore s v + (depthOf s v - suc level))) ∙ ap (placeOf s) (omega arith)
+pub level-next : (labels : List ℕ) (v level : ℕ) → level < depthOf labels v → listEnd labels (behind labels v (suc level)) ≡ behind labels v level
+level-next labels v level h =
+    sym (place-next labels (listsBefore labels v + (depthOf labels v - suc level))) ∙ ap (placeOf labels) (omega arith)
 
-pub level-fits : {s : List ℕ} {v level : ℕ} → Formed s → v < junctionsOf s → level < depthOf s v → ListFits s (behind s v (suc level))
-level-fits {s} {v} {level} formed on-map h =
-    formed .lists (listsBefore s v + (depthOf s v - suc level)) (list-number-of s on-map (omega arith))
+pub level-fits : {labels : List ℕ} {v level : ℕ} → Formed labels → v < junctionsOf labels → level < depthOf labels v → ListFits labels (behind labels v (suc level))
+level-fits {labels} {v} {level} formed on-map h =
+    formed .lists (listsBefore labels v + (depthOf labels v - suc level)) (list-number-of labels on-map (omega arith))
 
 -- the list for an ancestor is that of its level
-pub level-place : (s : List ℕ) (v u : ℕ) {level : ℕ} → depthOf s u ≡ level → listPlace s v u ≡ behind s v (suc level)
+pub level-place : (labels : List ℕ) (v u : ℕ) {level : ℕ} → depthOf labels u ≡ level → listPlace labels v u ≡ behind labels v (suc level)
 unfolding listPlace
-level-place s v u e = ap (λ i. placeOf s (listsBefore s v + i)) (omega arith)
+level-place labels v u e = ap (λ i. placeOf labels (listsBefore labels v + i)) (omega arith)

@@ -107,41 +107,41 @@ tradeOff-stands right =
     }
 
 -- the stored list for an ancestor is that of its level
-stored-level : (s : List ℕ) (v u : ℕ) {level : ℕ} → depthOf s u ≡ level → stored s v u ≡ listAt s (behind s v (suc level))
+stored-level : (labels : List ℕ) (v u : ℕ) {level : ℕ} → depthOf labels u ≡ level → stored labels v u ≡ listAt labels (behind labels v (suc level))
 unfolding stored
-stored-level s v u e = ap (listAt s) (level-place s v u e)
+stored-level labels v u e = ap (listAt labels) (level-place labels v u e)
 
-module _ {net s depths starts : List ℕ} (prepared : Prepared net s depths starts) where
+module _ {net labels depths tables : List ℕ} (prepared : Prepared net labels depths tables) where
   -- the stored list of a junction and its proper ancestor stands for the paths between them, both ways
-  pub stored-up : {x u : ℕ} → Above (parentsOf s) u x → IsTradeOff (networkOf net) x u (stored s x u)
+  pub stored-up : {x u : ℕ} → Above (parentsOf labels) u x → IsTradeOff (networkOf net) x u (stored labels x u)
   stored-up above = prepared .every-list-right .right above
 
-  pub stored-down : {x u : ℕ} → Above (parentsOf s) u x → IsTradeOff (networkOf net) u x (stored s x u)
+  pub stored-down : {x u : ℕ} → Above (parentsOf labels) u x → IsTradeOff (networkOf net) u x (stored labels x u)
   stored-down above = tradeOff-back number-lawful (roads-two-way (prepared .beside)) (stored-up above)
 
   -- ---- The marked sums
 
-  module _ {x y l : ℕ} (below-x : Above (parentsOf s) l x) (below-y : Above (parentsOf s) l y) (deepest : Deepest (parentsOf s) x y l) where
-    pub of-l : {h : ℕ} → WorkingSet (networkOf net) (parentsOf s) l h → Ancestor (parentsOf s) h l
+  module _ {x y l : ℕ} (below-x : Above (parentsOf labels) l x) (below-y : Above (parentsOf labels) l y) (deepest : Deepest (parentsOf labels) x y l) where
+    pub of-l : {h : ℕ} → WorkingSet (networkOf net) (parentsOf labels) l h → Ancestor (parentsOf labels) h l
     of-l (itself e) = inl e
     of-l (crossing above road) = inr above
 
     -- neither is an ancestor of the other, so the hoplinks meet every path
-    working-set-cut : IsCut (networkOf net) (WorkingSet (networkOf net) (parentsOf s) l) x y
+    working-set-cut : IsCut (networkOf net) (WorkingSet (networkOf net) (parentsOf labels) l) x y
     working-set-cut w =
-        let m = hoplinks-cut (parentsOf s) (roads-joined (prepared .beside)) forest deepest start finish w in
+        let m = hoplinks-cut (parentsOf labels) (roads-joined (prepared .beside)) forest deepest start finish w in
         record { at = m .at; inside = rw (deepest-unique forest (m .inside .is-deepest) deepest) at (m .inside .meeting); met = m .met }
       where
-        forest : IsForest (parentsOf s)
+        forest : IsForest (parentsOf labels)
         forest = parents-forest (prepared .beside)
 
-        start : Ancestor (parentsOf s) x y → ⊥
+        start : Ancestor (parentsOf labels) x y → ⊥
         start h = above-irrefl forest (ancestor-then-above (deepest .below-all x (record { of-start = inl refl; of-finish = h })) below-x)
 
-        finish : Ancestor (parentsOf s) y x → ⊥
+        finish : Ancestor (parentsOf labels) y x → ⊥
         finish h = above-irrefl forest (ancestor-then-above (deepest .below-all y (record { of-start = h; of-finish = inl refl })) below-y)
 
-    pub lists-across : ListsAcross (networkOf net) (WorkingSet (networkOf net) (parentsOf s) l) x y (stored s x) (stored s y)
+    pub lists-across : ListsAcross (networkOf net) (WorkingSet (networkOf net) (parentsOf labels) l) x y (stored labels x) (stored labels y)
     lists-across =
         record {
           cut = working-set-cut;
@@ -149,43 +149,43 @@ module _ {net s depths starts : List ℕ} (prepared : Prepared net s depths star
           from-right = λ h. stored-down (ancestor-then-above (of-l h) below-y);
         }
 
-    module _ {marks : List ℕ} (on-map : l < junctionsOf s) (hops : HopMarks net s l marks) where
+    module _ {marks : List ℕ} (on-map : l < junctionsOf labels) (hops : HopMarks net labels l marks) where
       -- a marked level is that of a junction of the working set
-      level-ancestor : (level : ℕ) → level < suc (depthOf s l) → depthOf s (ancestorOf s l (depthOf s l - level)) ≡ level
+      level-ancestor : (level : ℕ) → level < suc (depthOf labels l) → depthOf labels (ancestorOf labels l (depthOf labels l - level)) ≡ level
       level-ancestor level h =
-          omega (arith, climbed (prepared .beside .formed .parents) (depthOf s l - level) l on-map (omega arith) .depth)
+          omega (arith, climbed (prepared .beside .formed .parents) (depthOf labels l - level) l on-map (omega arith) .depth)
 
-      marked-real : {p : Weight} → MarkedSum s marks x y 0 (suc (depthOf s l)) p → WalkOf (networkOf net) x y p
+      marked-real : {p : Weight} → MarkedSum labels marks x y 0 (suc (depthOf labels l)) p → WalkOf (networkOf net) x y p
       marked-real {p} h = sum-has-walk number-lawful lists-across inside sum
         where
-          inside : WorkingSet (networkOf net) (parentsOf s) l (ancestorOf s l (depthOf s l - h .level))
+          inside : WorkingSet (networkOf net) (parentsOf labels) l (ancestorOf labels l (depthOf labels l - h .level))
           inside = hops .marked (h .level) (omega (arith, h .not-above)) (h .here .marked)
 
-          sum : IsSum energy (stored s x (ancestorOf s l (depthOf s l - h .level))) (stored s y (ancestorOf s l (depthOf s l - h .level))) p
+          sum : IsSum energy (stored labels x (ancestorOf labels l (depthOf labels l - h .level))) (stored labels y (ancestorOf labels l (depthOf labels l - h .level))) p
           sum =
               let e = level-ancestor (h .level) (h .not-above) in
-              rw (stored-level s x (ancestorOf s l (depthOf s l - h .level)) e, stored-level s y (ancestorOf s l (depthOf s l - h .level)) e) (h .here .sum)
+              rw (stored-level labels x (ancestorOf labels l (depthOf labels l - h .level)) e, stored-level labels y (ancestorOf labels l (depthOf labels l - h .level)) e) (h .here .sum)
 
       -- and every sum at a junction of the working set is a marked one
       marked-all :
-          {h : ℕ} {p : Weight} → WorkingSet (networkOf net) (parentsOf s) l h → IsSum energy (stored s x h) (stored s y h) p →
-          MarkedSum s marks x y 0 (suc (depthOf s l)) p
+          {h : ℕ} {p : Weight} → WorkingSet (networkOf net) (parentsOf labels) l h → IsSum energy (stored labels x h) (stored labels y h) p →
+          MarkedSum labels marks x y 0 (suc (depthOf labels l)) p
       marked-all {h} {p} inside sum =
           record {
-            level = depthOf s h;
+            level = depthOf labels h;
             not-below = omega arith;
             not-above = omega (arith, at .no-deeper);
             here =
                 record {
-                  marked = hops .all-marked (depthOf s h) (at .no-deeper) (rw (at .is) inside);
-                  sum = rw (stored-level s x h refl, stored-level s y h refl) at sum;
+                  marked = hops .all-marked (depthOf labels h) (at .no-deeper) (rw (at .is) inside);
+                  sum = rw (stored-level labels x h refl, stored-level labels y h refl) at sum;
                 };
           }
         where
-          at : AncestorAt s h l
+          at : AncestorAt labels h l
           at = ancestor-at (prepared .beside .formed .parents) on-map (of-l inside)
 
-      pub marked-stands : StandsFor net x y (MarkedSum s marks x y 0 (suc (depthOf s l)))
+      pub marked-stands : StandsFor net x y (MarkedSum labels marks x y 0 (suc (depthOf labels l)))
       marked-stands =
           record {
             real = marked-real;
@@ -197,43 +197,43 @@ module _ {net s depths starts : List ℕ} (prepared : Prepared net s depths star
 
 -- ---- Where two branches meet
 
-module _ {s : List ℕ} {x y l : ℕ} (meets : MeetsAt s x y l) where
+module _ {labels : List ℕ} {x y l : ℕ} (meets : MeetsAt labels x y l) where
   -- at one of the two: it stands above the other
-  pub meets-start : l ≡ x → (x ≡ y → ⊥) → Above (parentsOf s) x y
+  pub meets-start : l ≡ x → (x ≡ y → ⊥) → Above (parentsOf labels) x y
   meets-start e apart = proper apart (rw e at (meets .deepest .common .of-finish))
 
-  pub meets-finish : l ≡ y → (x ≡ y → ⊥) → Above (parentsOf s) y x
+  pub meets-finish : l ≡ y → (x ≡ y → ⊥) → Above (parentsOf labels) y x
   meets-finish e apart = proper (λ f. apart (sym f)) (rw e at (meets .deepest .common .of-start))
 
   -- at neither: it stands above both
-  pub meets-above : ParentsFit s → x < junctionsOf s → y < junctionsOf s → (l ≡ x → ⊥) → (l ≡ y → ⊥) → Branches s x y l
+  pub meets-above : ParentsFit labels → x < junctionsOf labels → y < junctionsOf labels → (l ≡ x → ⊥) → (l ≡ y → ⊥) → Branches labels x y l
   meets-above fit x-on-map y-on-map not-x not-y =
       record {
         x-on-map = x-on-map;
         y-on-map = y-on-map;
         l-on-map = meets .on-map;
-        below-x = above-shallower s (fit .ends) (proper not-x (meets .deepest .common .of-start));
-        below-y = above-shallower s (fit .ends) (proper not-y (meets .deepest .common .of-finish));
+        below-x = above-shallower labels (fit .ends) (proper not-x (meets .deepest .common .of-start));
+        below-y = above-shallower labels (fit .ends) (proper not-y (meets .deepest .common .of-finish));
       }
 
 -- ---- The sums at the common ancestors
 
 -- a sum of entries at two places, and back
-sum-at-places : {s : List ℕ} {near far i j : ℕ} {p : Weight} → SumAt s near far i j p → IsSum energy (listAt s near) (listAt s far) p
-sum-at-places {s} {near} {far} {i} {j} h =
+sum-at-places : {labels : List ℕ} {near far i j : ℕ} {p : Weight} → SumAt labels near far i j p → IsSum energy (listAt labels near) (listAt labels far) p
+sum-at-places {labels} {near} {far} {i} {j} h =
     record {
-      left = entry s near i;
-      right = entry s far j;
-      in-first = tabulate-member (entry s near) (countAt s near) {i = i} (h .in-near);
-      in-second = tabulate-member (entry s far) (countAt s far) {i = j} (h .in-far);
+      left = entry labels near i;
+      right = entry labels far j;
+      in-first = tabulate-member (entry labels near) (countAt labels near) {i = i} (h .in-near);
+      in-second = tabulate-member (entry labels far) (countAt labels far) {i = j} (h .in-far);
       adds = sym (h .adds);
     }
 
 places-of-sum :
-    {s : List ℕ} {Lists : ℕ → ℕ → Type 0} (near far : ℕ) {p : Weight} → Lists near far → IsSum energy (listAt s near) (listAt s far) p → SumIn s Lists p
-places-of-sum {s} near far {p} lists sum =
-    let one = member-stands (entry s near) (countAt s near) (sum .in-first) in
-    let two = member-stands (entry s far) (countAt s far) (sum .in-second) in
+    {labels : List ℕ} {Lists : ℕ → ℕ → Type 0} (near far : ℕ) {p : Weight} → Lists near far → IsSum energy (listAt labels near) (listAt labels far) p → SumIn labels Lists p
+places-of-sum {labels} near far {p} lists sum =
+    let one = member-stands (entry labels near) (countAt labels near) (sum .in-first) in
+    let two = member-stands (entry labels far) (countAt labels far) (sum .in-second) in
     record {
       near = near;
       far = far;
@@ -244,98 +244,98 @@ places-of-sum {s} near far {p} lists sum =
     }
 
 -- the list k behind the one for a level is k levels up
-row-place : (s : List ℕ) (v levels k : ℕ) → levels ≤ depthOf s v → k < levels → further s (behind s v levels) k ≡ behind s v (suc (levels - k - 1))
-row-place s v levels k deep h = further-place s (listsBefore s v + (depthOf s v - levels)) k ∙ ap (placeOf s) (omega arith)
+row-place : (labels : List ℕ) (v levels k : ℕ) → levels ≤ depthOf labels v → k < levels → further labels (behind labels v levels) k ≡ behind labels v (suc (levels - k - 1))
+row-place labels v levels k deep h = further-place labels (listsBefore labels v + (depthOf labels v - levels)) k ∙ ap (placeOf labels) (omega arith)
 
-module _ {net s depths starts : List ℕ} (prepared : Prepared net s depths starts) {x y near far levels : ℕ} (two : ListsBetween s x y near far levels) where
-  fit : ParentsFit s
+module _ {net labels depths tables : List ℕ} (prepared : Prepared net labels depths tables) {x y near far levels meeting : ℕ} (two : ListsBetween labels x y near far levels meeting) where
+  fit : ParentsFit labels
   fit = prepared .beside .formed .parents
 
-  deep-x : levels ≤ depthOf s x
-  deep-x = omega (arith, two .deep, above-shallower s (fit .ends) (two .below-x))
+  deep-x : levels ≤ depthOf labels x
+  deep-x = omega (arith, two .deep, above-shallower labels (fit .ends) (two .below-x))
 
-  deep-y : levels ≤ depthOf s y
-  deep-y = omega (arith, two .deep, above-shallower s (fit .ends) (two .below-y))
+  deep-y : levels ≤ depthOf labels y
+  deep-y = omega (arith, two .deep, above-shallower labels (fit .ends) (two .below-y))
 
-  near-place : (k : ℕ) → k < levels → further s near k ≡ behind s x (suc (levels - k - 1))
-  near-place k h = rw (two .near-is) (row-place s x levels k deep-x h)
+  near-place : (k : ℕ) → k < levels → further labels near k ≡ behind labels x (suc (levels - k - 1))
+  near-place k h = rw (two .near-is) (row-place labels x levels k deep-x h)
 
-  far-place : (k : ℕ) → k < levels → further s far k ≡ behind s y (suc (levels - k - 1))
-  far-place k h = rw (two .far-is) (row-place s y levels k deep-y h)
+  far-place : (k : ℕ) → k < levels → further labels far k ≡ behind labels y (suc (levels - k - 1))
+  far-place k h = rw (two .far-is) (row-place labels y levels k deep-y h)
 
   -- all the lists fit
-  pub row-fits : RowFits s near far levels
+  pub row-fits : RowFits labels near far levels
   row-fits =
       record {
         few-bytes = prepared .beside .formed .few-bytes;
         near-fits =
-            λ k h. rw (near-place k h) (level-fits (prepared .beside .formed) (below-on-map s (two .below-x)) (omega (arith, deep-x)));
+            λ k h. rw (near-place k h) (level-fits (prepared .beside .formed) (below-on-map labels (two .below-x)) (omega (arith, deep-x)));
         far-fits =
-            λ k h. rw (far-place k h) (level-fits (prepared .beside .formed) (below-on-map s (two .below-y)) (omega (arith, deep-y)));
+            λ k h. rw (far-place k h) (level-fits (prepared .beside .formed) (below-on-map labels (two .below-y)) (omega (arith, deep-y)));
       }
 
   -- the common ancestors meet every path, and the lists for each are stored
-  common-lists : ListsAcross (networkOf net) (Common (parentsOf s) x y) x y (stored s x) (stored s y)
+  common-lists : ListsAcross (networkOf net) (Common (parentsOf labels) x y) x y (stored labels x) (stored labels y)
   common-lists =
       record {
-        cut = common-ancestors-cut (parentsOf s) (roads-joined (prepared .beside)) (parents-forest (prepared .beside)) x y;
+        cut = common-ancestors-cut (parentsOf labels) (roads-joined (prepared .beside)) (parents-forest (prepared .beside)) x y;
         to-right = λ {h} c. stored-up prepared (ancestor-then-above (two .meets .deepest .below-all h c) (two .below-x));
         from-right = λ {h} c. stored-down prepared (ancestor-then-above (two .meets .deepest .below-all h c) (two .below-y));
       }
 
   -- a sum of the row is one at a common ancestor
-  row-real : {p : Weight} → SumIn s (Row s near far levels) p → WalkOf (networkOf net) x y p
+  row-real : {p : Weight} → SumIn labels (Row labels near far levels) p → WalkOf (networkOf net) x y p
   row-real {p} h = sum-has-walk number-lawful common-lists common sum
     where
       up : ℕ
-      up = ancestorOf s (two .meeting) (h .lists .level)
+      up = ancestorOf labels meeting (h .lists .level)
 
-      steps : h .lists .level ≤ depthOf s (two .meeting)
+      steps : h .lists .level ≤ depthOf labels meeting
       steps = omega (arith, h .lists .below, two .deep)
 
-      common : Common (parentsOf s) x y up
+      common : Common (parentsOf labels) x y up
       common =
-          let above = ancestor-is-up fit (h .lists .level) (two .meeting) (two .meets .on-map) steps in
+          let above = ancestor-is-up fit (h .lists .level) meeting (two .meets .on-map) steps in
           record { of-start = inr (ancestor-then-above above (two .below-x)); of-finish = inr (ancestor-then-above above (two .below-y)) }
 
-      deep : depthOf s up ≡ levels - h .lists .level - 1
-      deep = omega (arith, climbed fit (h .lists .level) (two .meeting) (two .meets .on-map) steps .depth, two .deep)
+      deep : depthOf labels up ≡ levels - h .lists .level - 1
+      deep = omega (arith, climbed fit (h .lists .level) meeting (two .meets .on-map) steps .depth, two .deep)
 
-      sum : IsSum energy (stored s x up) (stored s y up) p
+      sum : IsSum energy (stored labels x up) (stored labels y up) p
       sum =
-          rw (stored-level s x up deep, stored-level s y up deep)
+          rw (stored-level labels x up deep, stored-level labels y up deep)
           (rw (h .lists .near-is ∙ near-place (h .lists .level) (h .lists .below), h .lists .far-is ∙ far-place (h .lists .level) (h .lists .below)) at (sum-at-places (h .sum)))
 
   -- and every sum at a common ancestor is one of the row
-  row-all : {u : ℕ} {p : Weight} → Common (parentsOf s) x y u → IsSum energy (stored s x u) (stored s y u) p → SumIn s (Row s near far levels) p
-  row-all {u} {p} c sum = places-of-sum (behind s x (suc (depthOf s u))) (behind s y (suc (depthOf s u))) row listed
+  row-all : {u : ℕ} {p : Weight} → Common (parentsOf labels) x y u → IsSum energy (stored labels x u) (stored labels y u) p → SumIn labels (Row labels near far levels) p
+  row-all {u} {p} c sum = places-of-sum (behind labels x (suc (depthOf labels u))) (behind labels y (suc (depthOf labels u))) row listed
     where
-      at : AncestorAt s u (two .meeting)
+      at : AncestorAt labels u meeting
       at = ancestor-at fit (two .meets .on-map) (two .meets .deepest .below-all u c)
 
       level : ℕ
-      level = depthOf s (two .meeting) - depthOf s u
+      level = depthOf labels meeting - depthOf labels u
 
       below : level < levels
       below = omega (arith, two .deep)
 
-      back : depthOf s u ≡ levels - level - 1
+      back : depthOf labels u ≡ levels - level - 1
       back = omega (arith, two .deep, at .no-deeper)
 
-      row : Row s near far levels (behind s x (suc (depthOf s u))) (behind s y (suc (depthOf s u)))
+      row : Row labels near far levels (behind labels x (suc (depthOf labels u))) (behind labels y (suc (depthOf labels u)))
       row =
           record {
             level = level;
             below = below;
-            near-is = rw (near-place level below) (ap (λ d. behind s x (suc d)) back);
-            far-is = rw (far-place level below) (ap (λ d. behind s y (suc d)) back);
+            near-is = rw (near-place level below) (ap (λ d. behind labels x (suc d)) back);
+            far-is = rw (far-place level below) (ap (λ d. behind labels y (suc d)) back);
           }
 
-      listed : IsSum energy (listAt s (behind s x (suc (depthOf s u)))) (listAt s (behind s y (suc (depthOf s u)))) p
-      listed = rw (stored-level s x u refl, stored-level s y u refl) at sum
+      listed : IsSum energy (listAt labels (behind labels x (suc (depthOf labels u)))) (listAt labels (behind labels y (suc (depthOf labels u)))) p
+      listed = rw (stored-level labels x u refl, stored-level labels y u refl) at sum
 
   -- so the row stands for all paths
-  pub row-stands : StandsFor net x y (SumIn s (Row s near far levels))
+  pub row-stands : StandsFor net x y (SumIn labels (Row labels near far levels))
   row-stands =
       record {
         real = row-real;
@@ -347,36 +347,36 @@ module _ {net s depths starts : List ℕ} (prepared : Prepared net s depths star
 
 -- ---- Which lists tell
 
-module _ (s : List ℕ) (x y : ℕ) where
-  pub leads-nowhere : {r : Between} → r ≡ Nothing → Leads s x y r → (u : ℕ) → Common (parentsOf s) x y u → ⊥
-  leads-nowhere e h = subst (Leads s x y) e h
+module _ (labels : List ℕ) (x y : ℕ) where
+  pub leads-nowhere : {r : Between} → r ≡ Nothing → Leads labels x y r → (u : ℕ) → Common (parentsOf labels) x y u → ⊥
+  leads-nowhere e h = subst (Leads labels x y) e h
 
-  pub leads-list : {r : Between} {at : ℕ} → r ≡ OneList at → Leads s x y r → ListBetween s x y at
-  leads-list e h = subst (Leads s x y) e h
+  pub leads-list : {r : Between} {at : ℕ} → r ≡ OneList at → Leads labels x y r → ListBetween labels x y at
+  leads-list e h = subst (Leads labels x y) e h
 
-  pub leads-lists : {r : Between} {near far levels : ℕ} → r ≡ TwoLists near far levels → Leads s x y r → ListsBetween s x y near far levels
-  leads-lists e h = subst (Leads s x y) e h
+  pub leads-lists : {r : Between} {near far levels meeting : ℕ} → r ≡ TwoLists near far levels meeting → Leads labels x y r → ListsBetween labels x y near far levels meeting
+  leads-lists e h = subst (Leads labels x y) e h
 
 -- the list between two junctions fits
-pub list-between-fits : {s : List ℕ} {x y at : ℕ} → Formed s → ListBetween s x y at → ListFits s at
+pub list-between-fits : {labels : List ℕ} {x y at : ℕ} → Formed labels → ListBetween labels x y at → ListFits labels at
 list-between-fits formed one = ⊎-elim (λ h. rw (h .1) (stored-fits formed (h .0))) (λ h. rw (h .1) (stored-fits formed (h .0))) (one .either)
 
 -- and is their trade-off list, whichever of the two it is stored with
 pub list-between-right :
-    {net s depths starts : List ℕ} {x y at : ℕ} → Prepared net s depths starts → ListBetween s x y at → IsTradeOff (networkOf net) x y (listAt s at)
+    {net labels depths tables : List ℕ} {x y at : ℕ} → Prepared net labels depths tables → ListBetween labels x y at → IsTradeOff (networkOf net) x y (listAt labels at)
 unfolding stored
-list-between-right {net} {s} {x = x} {y} {at} prepared one = ⊎-elim up down (one .either)
+list-between-right {net} {labels} {x = x} {y} {at} prepared one = ⊎-elim up down (one .either)
   where
-    up : Above (parentsOf s) y x × (at ≡ listPlace s x y) → IsTradeOff (networkOf net) x y (listAt s at)
+    up : Above (parentsOf labels) y x × (at ≡ listPlace labels x y) → IsTradeOff (networkOf net) x y (listAt labels at)
     up h = rw (h .1) (stored-up prepared (h .0))
 
-    down : Above (parentsOf s) x y × (at ≡ listPlace s y x) → IsTradeOff (networkOf net) x y (listAt s at)
+    down : Above (parentsOf labels) x y × (at ≡ listPlace labels y x) → IsTradeOff (networkOf net) x y (listAt labels at)
     down h = rw (h .1) (stored-down prepared (h .0))
 
 -- ---- The answers of a query
 
-module _ {net s depths starts : List ℕ} (prepared : Prepared net s depths starts) {x y : ℕ} (x-on-map : x < junctionsOf s)
-    (y-on-map : y < junctionsOf s) where
+module _ {net labels depths tables : List ℕ} (prepared : Prepared net labels depths tables) {x y : ℕ} (x-on-map : x < junctionsOf labels)
+    (y-on-map : y < junctionsOf labels) where
   x-on-net : x < junctionsOf net
   x-on-net = omega (arith, prepared .beside .one-map)
 
@@ -388,17 +388,17 @@ module _ {net s depths starts : List ℕ} (prepared : Prepared net s depths star
   answer-itself {C} e = whole.found x-on-net y-on-net (rw (← e) (alone-best number-lawful x C)) refl
 
   -- junctions of different trees
-  pub answer-apart : {C : ℕ} → ((u : ℕ) → Common (parentsOf s) x y u → ⊥) → Answers net x y C 22 0 0
+  pub answer-apart : {C : ℕ} → ((u : ℕ) → Common (parentsOf labels) x y u → ⊥) → Answers net x y C 22 0 0
   answer-apart none =
-      whole.not-connected x-on-net y-on-net (apart-without-common (parentsOf s) (roads-joined (prepared .beside)) (parents-forest (prepared .beside)) none) refl refl refl
+      whole.not-connected x-on-net y-on-net (apart-without-common (parentsOf labels) (roads-joined (prepared .beside)) (parents-forest (prepared .beside)) none) refl refl refl
 
   module _ {C : ℕ} {r : Answer} where
     -- a junction and one above it, either way round
-    pub answer-list : {at : ℕ} → ListBetween s x y at → AnswerFrom (EntryOf (listAt s at)) C r → Answers net x y C (numberOf r) (timeOf r) (energyOf r)
+    pub answer-list : {at : ℕ} → ListBetween labels x y at → AnswerFrom (EntryOf (listAt labels at)) C r → Answers net x y C (numberOf r) (timeOf r) (energyOf r)
     answer-list one answer = stands-answer (tradeOff-stands (list-between-right prepared one)) x-on-net y-on-net answer
 
     -- two branches
     pub answer-lists :
-        {near far levels : ℕ} → ListsBetween s x y near far levels → AnswerFrom (SumIn s (Row s near far levels)) C r →
+        {near far levels meeting : ℕ} → ListsBetween labels x y near far levels meeting → AnswerFrom (SumIn labels (Row labels near far levels)) C r →
         Answers net x y C (numberOf r) (timeOf r) (energyOf r)
     answer-lists two answer = stands-answer (row-stands prepared two) x-on-net y-on-net answer

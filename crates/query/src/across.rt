@@ -22,7 +22,7 @@ ghost use Rattle.query.specs.working.Sums.{pairOf, SumIs, Only, Row, Row
 // A sum of two entries and where it stands: entry i of the list at byte `near` and entry j of the list at byte `far`.
 pub struct Sum {
     pub time: Seconds,
-    pub units: Energy,
+    pub energy: Energy,
     pub near: usize,
     pub far: usize,
     pub i: usize,
@@ -43,7 +43,7 @@ pub fn sum_at(labels: &[u8], near: usize, far: usize, i: usize, j: usize) -> Sum
 {
     Sum {
         time: time_at(labels, near, i).plus(time_at(labels, far, j)),
-        units: energy_at(labels, near, i).plus(energy_at(labels, far, j)),
+        energy: energy_at(labels, near, i).plus(energy_at(labels, far, j)),
         near: near,
         far: far,
         i: i,
@@ -62,7 +62,7 @@ fn comes_before(candidate: Sum, best: Sum) -> bool
     if best.time.below(candidate.time) {
         return false;
     }
-    candidate.units.below(best.units)
+    candidate.energy.below(best.energy)
 }
 
 // Up the near list from place `start` and down the far list from place `end`: as the near entry's energy rises, fewer far entries fit
@@ -131,7 +131,7 @@ fn at_level(labels: &[u8], near: usize, far: usize, limit: Energy, best: Best) -
     }
     let known = best.sum;
     let cheapest = sum_at(labels, near, far, 0, 0);
-    if limit.below(cheapest.units) {
+    if limit.below(cheapest.energy) {
         return Best {
             connected: true,
             sum: known,

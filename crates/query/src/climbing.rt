@@ -1,5 +1,7 @@
 // Where the lists of two junctions for their common ancestors stand: both climb to where they meet, each list place with its ancestor.
 use crate::Between;
+use crate::above::in_block;
+use crate::above::list_above;
 use forest::parents::parent_at;
 use stored::place::Place;
 use tables::STARTS;
@@ -10,6 +12,7 @@ ghost use lib.ListN.{length};
 ghost use Rattle.network.specs.NetworkFile.{junctionsOf};
 ghost use Rattle.forest.specs.Forest.{depthOf};
 ghost use Rattle.forest.specs.working.Fits.{DepthsFilled};
+ghost use Rattle.preorder.specs.working.Numbered.{Numbered};
 ghost use Rattle.stored.specs.ListForm.{mostBytes};
 ghost use Rattle.stored.specs.working.Formed.{Formed, StartsFilled};
 ghost use Rattle.query.specs.working.Between.{Climbs, Steps, Abreast, Leads};
@@ -69,7 +72,7 @@ fn meet(labels: &[u8], depth: u32, near: Climb, far: Climb) -> Between
         let above_left = step(labels, left);
         let above_right = step(labels, right);
         if above_left.up == above_right.up {
-            return Between::Lists(left.at, right.at, levels);
+            return Between::Lists(left.at, right.at, levels, above_left.up);
         }
         left = above_left;
         right = above_right;
@@ -78,8 +81,8 @@ fn meet(labels: &[u8], depth: u32, near: Climb, far: Climb) -> Between
     Between::Nothing
 }
 
-// The lists that tell of the paths between x and y, two junctions. The deeper climbs to just below the other's depth first: the list
-// there is for what may be the other.
+// The lists that tell of the paths between x and y, two junctions. The higher may stand above the other, which its block tells; if not,
+// the deeper climbs to the other's depth, and both climb on from there.
 pub fn between(
     labels: &[u8],
     depths: &[u32; 1024],
@@ -88,27 +91,27 @@ pub fn between(
     y: usize,
 ) -> Between
     requires { ⌜ Formed (now labels) × DepthsFilled (now labels) (now depths) × StartsFilled (now labels) (now tables) ⌝ }
+    requires { ⌜ Numbered (now labels) (now tables) ⌝ }
     requires { ⌜ (x < junctionsOf (now labels)) × (y < junctionsOf (now labels)) × (x ≡ y → ⊥) ⌝ }
     ensures { λ r. ⌜ Leads (now (labels .entry)) x y r ⌝ }
 {
     let depth_x = depths[x];
     let depth_y = depths[y];
     if depth_y < depth_x {
-        let below = climb_of(labels, tables, x, depth_x - depth_y - 1);
-        let near = step(labels, below);
-        if near.up == y {
-            return Between::List(below.at);
+        if in_block(tables, y, x) {
+            return Between::List(list_above(labels, depths, tables, x, y));
         }
+        let near = climb_of(labels, tables, x, depth_x - depth_y);
         return meet(labels, depth_y, near, climb_of(labels, tables, y, 0));
     }
-    if depth_x < depth_y {
-        let below = climb_of(labels, tables, y, depth_y - depth_x - 1);
-        let far = step(labels, below);
-        if far.up == x {
-            return Between::List(below.at);
-        }
-        return meet(labels, depth_x, climb_of(labels, tables, x, 0), far);
+    if in_block(tables, x, y) {
+        return Between::List(list_above(labels, depths, tables, y, x));
     }
     let near = climb_of(labels, tables, x, 0);
-    meet(labels, depth_x, near, climb_of(labels, tables, y, 0))
+    meet(
+        labels,
+        depth_x,
+        near,
+        climb_of(labels, tables, y, depth_y - depth_x),
+    )
 }

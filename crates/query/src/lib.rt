@@ -18,15 +18,17 @@ pub struct Pair {
 }
 
 // The lists that tell of the paths between two junctions: none; that of one junction for the other above it, at a byte; or those of
-// both for their common ancestors, from two bytes on, so many on each side.
+// both for their common ancestors, from two bytes on, so many on each side, and the deepest of these ancestors, where the ways meet.
 pub enum Between {
     Nothing,
     List(usize),
-    Lists(usize, usize, u32),
+    Lists(usize, usize, u32, usize),
 }
 
+pub mod above;
 pub mod across;
 pub mod climbing;
 pub mod direct;
 pub mod limited;
+pub mod passing;
 pub mod places;

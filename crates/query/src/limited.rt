@@ -6,7 +6,7 @@ use crate::across::Sum;
 use crate::across::across;
 use crate::climbing::between;
 use crate::direct::from_list;
-use bytes::u16_at;
+use network::header::junctions_of;
 use paths::energy::Energy;
 use paths::seconds::Seconds;
 ghost use Prim.Native.Nat.{_<_};
@@ -28,7 +28,7 @@ pub fn unknown() -> Best
         connected: false,
         sum: Sum {
             time: Seconds(NO_TIME),
-            units: Energy(0),
+            energy: Energy(0),
             near: 0,
             far: 0,
             i: 0,
@@ -43,9 +43,9 @@ fn told(best: Best) -> Answer
 {
     let sum = best.sum;
     let time = sum.time;
-    let units = sum.units;
+    let energy = sum.energy;
     if !time.equals(Seconds(NO_TIME)) {
-        return Answer::Found(time, units);
+        return Answer::Found(time, energy);
     }
     if best.connected {
         return Answer::OverLimit;
@@ -82,7 +82,7 @@ pub fn best(
     match lists {
         Between::Nothing => Answer::NotConnected,
         Between::List(at) => from_list(labels, at, limit),
-        Between::Lists(near, far, levels) => from_lists(labels, near, far, levels, limit),
+        Between::Lists(near, far, levels, _) => from_lists(labels, near, far, levels, limit),
     }
 }
 
@@ -99,7 +99,7 @@ pub fn answer(
     requires { ⌜ Prepared (now net) (now labels) (now depths) (now tables) ⌝ }
     ensures { λ r. ⌜ Answers (now (net .entry)) s t limit (numberOf r) (timeOf r) (energyOf r) ⌝ }
 {
-    let junctions = u16_at(net, 6);
+    let junctions = junctions_of(net);
     if s >= junctions {
         return Answer::OffMap;
     }

@@ -1,8 +1,8 @@
 // Places in a stored list, read where it stands. Energy rises along a list and time falls, so that halving finds where either passes
 // a bound.
-use bytes::u16_at;
 use paths::energy::Energy;
 use paths::seconds::Seconds;
+use stored::place::Place;
 use stored::stored::energy_at;
 use stored::stored::time_at;
 ghost use mathlib.Core.Path.{_≡_};
@@ -18,7 +18,8 @@ pub fn count_at(labels: &[u8], at: usize) -> usize
     requires { ⌜ ListFits (now labels) at ⌝ }
     ensures { λ r. ⌜ r ≡ countAt (now (labels .entry)) at ⌝ }
 {
-    u16_at(labels, at) as usize
+    let place = Place { at: at };
+    place.count(labels) as usize
 }
 
 // How many entries of the list at a byte fit beside so much energy, by halving.

@@ -34,21 +34,9 @@ fn put_found(
         ⌜ QueryReplied (now (net .entry)) (query .start) (query .finish) (query .limit) (now (out .entry)) at (now (out .exit)) r ⌝ }
 {
     let mut junctions: [u32; 1024] = [0; 1024];
-    let mut marks: [u8; 1024] = [0; 1024];
     let from = query.start as usize;
     let to = query.finish as usize;
-    let count = route(
-        net,
-        labels,
-        depths,
-        tables,
-        from,
-        to,
-        pair.time,
-        pair.energy,
-        &mut junctions,
-        &mut marks,
-    );
+    let count = route(net, labels, depths, tables, from, to, pair, &mut junctions);
     put_found_line(out, at, query, pair, &junctions, count)
 }
 

@@ -6,9 +6,9 @@ use mathlib.Core.List.{List, _∷_}
 use Prim.Native.Nat.{ℕ, suc, _+_, _-_, _≤_, _<_}
 use native.Mathlib.Decide.{decLe, ℕ-discrete}
 use native.Mathlib.Omega.{arith}
-use lib.Dec.{ltb}
+use lib.Dec.{leb, ltb}
 use lib.ListN.{getD}
-use borrow.Author.Tests.{ltb-true, ltb-false}
+use borrow.Author.Tests.{leb-true, leb-false, ltb-true, ltb-false}
 use Rattle.paths.specs.Weights.{weights, energy, pair, time, spent}
 use Rattle.paths.specs.Network.{Walk, stay, go, weight}
 use Rattle.paths.specs.TradeOff.{Skyline}
@@ -23,8 +23,10 @@ use Rattle.network.specs.working.Fits.{NetworkFits}
 use Rattle.network.proofs.Arcs.{one-weight}
 use Rattle.network.proofs.RoadsAt.{nextRoad-low, nextRoad-touches, nextRoad-passed, touches-arc, arc-touches, others-rise}
 use Rattle.refusals.specs.working.Decides.{Decides}
-use Rattle.routes.specs.working.Reach.{PathWithin}
-use Rattle.routes.specs.working.Steps.{StepFits, StepRoad}
+use Rattle.query.specs.declared.Pair.{Pair}
+use Rattle.reaching.specs.working.Reach.{PathWithin, weightOf}
+use Rattle.reaching.proofs.Searching.{not-both}
+use Rattle.routes.specs.working.Steps.{RoadPair, FitsInto, LeftAfter, StepFits, StepRoad}
 
 -- ---- What is left after a road
 
@@ -34,67 +36,64 @@ roadPair net k = pair (roadTime net k) (roadEnergy net k)
 
 -- a road and what is left make up the whole
 pub rest-adds :
-    (net : List ℕ) (k : ℕ) {seconds units : ℕ} → roadTime net k ≤ seconds → roadEnergy net k ≤ units →
-    weights energy ._⊕_ (roadPair net k) (pair (seconds - roadTime net k) (units - roadEnergy net k)) ≡ pair seconds units
+    (net : List ℕ) (k : ℕ) {wholeTime wholeEnergy : ℕ} → roadTime net k ≤ wholeTime → roadEnergy net k ≤ wholeEnergy →
+    weights energy ._⊕_ (roadPair net k) (pair (wholeTime - roadTime net k) (wholeEnergy - roadEnergy net k)) ≡ pair wholeTime wholeEnergy
 rest-adds net k h g = ap₂ pair (omega arith) (omega arith)
 
--- a test that fails leaves the other order
-pub not-below : {a b : ℕ} {answer : Bool} → answer ≡ ltb a b → answer ≡ false → b ≤ a
-not-below {a} {b} e f = ltb-false a b (sym e ∙ f)
+-- a part that takes too long does not fit
+pub too-slow : {part whole : Pair} {answer : Bool} → answer ≡ ltb (whole .time .0) (part .time .0) → answer ≡ true → Decides (FitsInto part whole) false
+too-slow {part} {whole} e f =
+    let late : whole .time .0 < part .time .0 = ltb-true (whole .time .0) (part .time .0) (sym e ∙ f) in
+    record { holds = λ q. not-both q; fails = λ q fits. omega (arith, fits .time-fits) }
 
--- a road that takes too long does not fit
-pub too-slow :
-    {net : List ℕ} {x y k seconds units takes : ℕ} {answer : Bool} → takes ≡ roadTime net k → answer ≡ ltb seconds takes → answer ≡ true →
-    Decides (StepFits net x y k seconds units) false
-too-slow {seconds = seconds} {takes = takes} e f g =
-    let late : seconds < takes = ltb-true seconds takes (sym f ∙ g) in
-    record { holds = λ q. let z : _≡_ {A = ℕ} 0 1 = cc in absurd (omega arith); fails = λ q step. omega (arith, step .time-fits) }
-
--- a road that spends too much does not fit
-pub too-costly :
-    {net : List ℕ} {x y k seconds units spends : ℕ} {answer : Bool} → spends ≡ roadEnergy net k → answer ≡ ltb units spends → answer ≡ true →
-    Decides (StepFits net x y k seconds units) false
-too-costly {units = units} {spends = spends} e f g =
-    let over : units < spends = ltb-true units spends (sym f ∙ g) in
-    record { holds = λ q. let z : _≡_ {A = ℕ} 0 1 = cc in absurd (omega arith); fails = λ q step. omega (arith, step .energy-fits) }
+-- of any other the energies decide
+pub energies-decide :
+    {part whole : Pair} {late answer : Bool} → late ≡ ltb (whole .time .0) (part .time .0) → late ≡ false →
+    answer ≡ leb (part .energy .0) (whole .energy .0) → Decides (FitsInto part whole) answer
+energies-decide {part} {whole} e f g =
+    record {
+      holds = λ q. record { time-fits = ltb-false (whole .time .0) (part .time .0) (sym e ∙ f); energy-fits = leb-true (part .energy .0) (whole .energy .0) (sym g ∙ q) };
+      fails = λ q fits. omega (arith, leb-false (part .energy .0) (whole .energy .0) (sym g ∙ q), fits .energy-fits);
+    }
 
 -- A road of x that fits
-record SomeStep (net : List ℕ) (x y seconds units : ℕ) : Type 0 where
+record SomeStep (net : List ℕ) (x y wholeTime wholeEnergy : ℕ) : Type 0 where
   road : ℕ
   stands : road < roadsOf net
   at-start : touches net x road ≡ true
-  step : StepFits net x y road seconds units
+  step : StepFits net x y road wholeTime wholeEnergy
 
 -- No road of x before k fits, and k is a road of x or behind the last
-pub record RoadSearch (net : List ℕ) (x y seconds units k : ℕ) : Type 0 where
+pub record RoadSearch (net : List ℕ) (x y wholeTime wholeEnergy k : ℕ) : Type 0 where
   pub at-start : k < roadsOf net → touches net x k ≡ true
-  pub none-before : (j : ℕ) → j < k → touches net x j ≡ true → StepFits net x y j seconds units → ⊥
+  pub none-before : (j : ℕ) → j < k → touches net x j ≡ true → StepFits net x y j wholeTime wholeEnergy → ⊥
 
--- of any other road the answer is whether its other end reaches y within the rest
-pub step-decided :
-    {net : List ℕ} {x y k seconds units takes spends next left rest : ℕ} {in-time in-units answer : Bool} →
-    takes ≡ roadTime net k → in-time ≡ ltb seconds takes → in-time ≡ false →
-    spends ≡ roadEnergy net k → in-units ≡ ltb units spends → in-units ≡ false →
-    next ≡ otherEnd net x k → left ≡ seconds - takes → rest ≡ units - spends →
-    Decides (PathWithin net next y (pair left rest)) answer → Decides (StepFits net x y k seconds units) answer
-step-decided {net} {x} {y} {k} {seconds} {units} {takes} {spends} {next} {left} {rest} takes-is early early-is spends-is cheap cheap-is e f g decides =
-    record {
-      holds = λ q. record { time-fits = rw (← takes-is) quick; energy-fits = rw (← spends-is) frugal; within = rw (← same) (decides .holds q) };
-      fails = λ q step. decides .fails q (rw same (step .within));
-    }
-  where
-    quick : takes ≤ seconds
-    quick = not-below early early-is
+module _ {net : List ℕ} {x y k : ℕ} {takes whole : Pair} (read : RoadPair net k takes) where
+  -- a road that does not fit
+  pub step-unfit : (FitsInto takes whole → ⊥) → Decides (StepFits net x y k (whole .time .0) (whole .energy .0)) false
+  step-unfit unfit =
+      record {
+        holds = λ q. not-both q;
+        fails = λ q step. unfit (record { time-fits = rw (read .time-is) (step .time-fits); energy-fits = rw (read .energy-is) (step .energy-fits) });
+      }
 
-    frugal : spends ≤ units
-    frugal = not-below cheap cheap-is
-
-    same : PathWithin net next y (pair left rest) ≡ PathWithin net (otherEnd net x k) y (pair (seconds - roadTime net k) (units - roadEnergy net k))
-    same = rw (e, f, g, takes-is, spends-is)
+  -- of any other road the answer is whether its other end reaches y within the rest
+  pub step-decided :
+      {left : Pair} {next : ℕ} {answer : Bool} → FitsInto takes whole → LeftAfter whole takes left → next ≡ otherEnd net x k →
+      Decides (PathWithin net next y (weightOf left)) answer → Decides (StepFits net x y k (whole .time .0) (whole .energy .0)) answer
+  step-decided {left} {next} fits rest e decides =
+      record {
+        holds = λ q.
+            record { time-fits = rw (← read .time-is) (fits .time-fits); energy-fits = rw (← read .energy-is) (fits .energy-fits); within = rw (← same) (decides .holds q) };
+        fails = λ q step. decides .fails q (rw same (step .within));
+      }
+    where
+      same : PathWithin net next y (weightOf left) ≡ PathWithin net (otherEnd net x k) y (pair (whole .time .0 - roadTime net k) (whole .energy .0 - roadEnergy net k))
+      same = rw (e, rest .time-is, rest .energy-is, read .time-is, read .energy-is)
 
 -- what the road after one of x is asked with
 pub road-follows :
-    {net tables : List ℕ} {x y k seconds units : ℕ} → NetworkFits net → Grouped net tables → RoadSearch net x y seconds units k →
+    {net tables : List ℕ} {x y k wholeTime wholeEnergy : ℕ} → NetworkFits net → Grouped net tables → RoadSearch net x y wholeTime wholeEnergy k →
     k < roadsOf net → NetworkFits net × Grouped net tables × (k < roadsOf net) × (touches net x k ≡ true)
 road-follows fits grouped now h =
     (fits, grouped, h, now .at-start h)
@@ -102,13 +101,13 @@ road-follows fits grouped now h =
 module _ {net : List ℕ} (fits : NetworkFits net) where
   -- a first arc whose rest is walked fits
   arc-fits :
-      {x v y k seconds units : ℕ} {w : weights energy .Figure} → RoadArc net x v k w → (rest : Walk (networkOf net) v y) →
-      weights energy ._⊕_ w (weight rest) ≡ pair seconds units → StepFits net x y k seconds units
-  arc-fits {x} {v} {y} {k} {seconds} {units} {w} a rest e =
+      {x v y k wholeTime wholeEnergy : ℕ} {w : weights energy .Figure} → RoadArc net x v k w → (rest : Walk (networkOf net) v y) →
+      weights energy ._⊕_ w (weight rest) ≡ pair wholeTime wholeEnergy → StepFits net x y k wholeTime wholeEnergy
+  arc-fits {x} {v} {y} {k} {wholeTime} {wholeEnergy} {w} a rest e =
       let takes : time energy w ≡ roadTime net k = ap (time energy) (a .weighs) in
       let spends : spent energy w ≡ roadEnergy net k = ap (spent energy) (a .weighs) in
-      let sum-time : time energy w + time energy (weight rest) ≡ seconds = ap (time energy) e in
-      let sum-energy : spent energy w + spent energy (weight rest) ≡ units = ap (spent energy) e in
+      let sum-time : time energy w + time energy (weight rest) ≡ wholeTime = ap (time energy) e in
+      let sum-energy : spent energy w + spent energy (weight rest) ≡ wholeEnergy = ap (spent energy) e in
       record {
         time-fits = omega arith;
         energy-fits = omega arith;
@@ -116,7 +115,7 @@ module _ {net : List ℕ} (fits : NetworkFits net) where
       }
 
   -- a walk of that weight to another junction begins with one
-  walk-steps : {x y seconds units : ℕ} (w : Walk (networkOf net) x y) → (x ≡ y → ⊥) → weight w ≡ pair seconds units → SomeStep net x y seconds units
+  walk-steps : {x y wholeTime wholeEnergy : ℕ} (w : Walk (networkOf net) x y) → (x ≡ y → ⊥) → weight w ≡ pair wholeTime wholeEnergy → SomeStep net x y wholeTime wholeEnergy
   unfolding weight
   walk-steps stay apart e = absurd (apart refl)
   walk-steps (go {r = k} a rest) apart e =
@@ -126,8 +125,8 @@ module _ {net : List ℕ} (fits : NetworkFits net) where
 
   -- the first road of x
   pub search-start :
-      {x y seconds units k : ℕ} {tables : List ℕ} → Grouped net tables → x < junctionsOf net → k ≡ getD tables (firstsFrom + x) 0 →
-      RoadSearch net x y seconds units k
+      {x y wholeTime wholeEnergy k : ℕ} {tables : List ℕ} → Grouped net tables → x < junctionsOf net → k ≡ getD tables (firstsFrom + x) 0 →
+      RoadSearch net x y wholeTime wholeEnergy k
   search-start {x} grouped on-map e =
       rw (e, grouped .first x on-map) (
       record {
@@ -137,16 +136,16 @@ module _ {net : List ℕ} (fits : NetworkFits net) where
 
   -- the road that follows one that does not fit
   pub search-more :
-      {x y seconds units k next : ℕ} → RoadSearch net x y seconds units k → (StepFits net x y k seconds units → ⊥) → next ≡ nextRoad net x (suc k) →
-      RoadSearch net x y seconds units next
-  search-more {x} {y} {seconds} {units} {k} now unfit e =
+      {x y wholeTime wholeEnergy k next : ℕ} → RoadSearch net x y wholeTime wholeEnergy k → (StepFits net x y k wholeTime wholeEnergy → ⊥) → next ≡ nextRoad net x (suc k) →
+      RoadSearch net x y wholeTime wholeEnergy next
+  search-more {x} {y} {wholeTime} {wholeEnergy} {k} now unfit e =
       rw e (
       record {
         at-start = λ h. nextRoad-touches net x (suc k) h;
         none-before = λ j h here step. earlier j here step (nextRoad-passed net x (suc k) j here h) (ℕ-discrete j k);
       })
     where
-      earlier : (j : ℕ) → touches net x j ≡ true → StepFits net x y j seconds units → j < suc k → Dec (j ≡ k) → ⊥
+      earlier : (j : ℕ) → touches net x j ≡ true → StepFits net x y j wholeTime wholeEnergy → j < suc k → Dec (j ≡ k) → ⊥
       earlier j here step h (yes same) = unfit (rw same at step)
       earlier j here step h (no apart) = now .none-before j (omega arith) here step
 
@@ -156,20 +155,20 @@ module _ {net : List ℕ} (fits : NetworkFits net) where
 
   -- the road is found
   pub search-found :
-      {x y seconds units k : ℕ} → RoadSearch net x y seconds units k → k < roadsOf net → StepFits net x y k seconds units → StepRoad net x y k seconds units
+      {x y wholeTime wholeEnergy k : ℕ} → RoadSearch net x y wholeTime wholeEnergy k → k < roadsOf net → StepFits net x y k wholeTime wholeEnergy → StepRoad net x y k wholeTime wholeEnergy
   search-found now h step = record { stands = h; at-start = now .at-start h; fits = step; none-before = now .none-before }
 
   -- an unbeaten pair is spent by a walk, so the search ends before the last road
   pub search-never :
-      {x y seconds units k : ℕ} → RoadSearch net x y seconds units k → roadsOf net ≤ k → (x ≡ y → ⊥) →
-      Skyline (networkOf net) x y (pair seconds units) → ⊥
+      {x y wholeTime wholeEnergy k : ℕ} → RoadSearch net x y wholeTime wholeEnergy k → roadsOf net ≤ k → (x ≡ y → ⊥) →
+      Skyline (networkOf net) x y (pair wholeTime wholeEnergy) → ⊥
   search-never now h apart line =
       let some = walk-steps (line .walk) apart (line .weighs) in
       now .none-before (some .road) (omega (arith, some .stands)) (some .at-start) (some .step)
 
   -- ---- The step
 
-  module _ {x y k seconds units : ℕ} (line : Skyline (networkOf net) x y (pair seconds units)) (step : StepRoad net x y k seconds units) where
+  module _ {x y k wholeTime wholeEnergy : ℕ} (line : Skyline (networkOf net) x y (pair wholeTime wholeEnergy)) (step : StepRoad net x y k wholeTime wholeEnergy) where
     -- the road as an arc
     pub step-arc : RoadArc net x (otherEnd net x k) k (roadPair net k)
     step-arc = touches-arc fits x k (step .stands) (step .at-start)
@@ -177,26 +176,26 @@ module _ {net : List ℕ} (fits : NetworkFits net) where
     abbrev rest : Walk (networkOf net) (otherEnd net x k) y
     rest = step .fits .within .walk
 
-    covers : weights energy ._⊑_ (weights energy ._⊕_ (roadPair net k) (weight rest)) (pair seconds units)
+    covers : weights energy ._⊑_ (weights energy ._⊕_ (roadPair net k) (weight rest)) (pair wholeTime wholeEnergy)
     covers =
-        let small-energy : spent energy (weight rest) ≤ units - roadEnergy net k = step .fits .within .no-larger .0 in
-        let small-time : time energy (weight rest) ≤ seconds - roadTime net k = step .fits .within .no-larger .1 in
+        let small-energy : spent energy (weight rest) ≤ wholeEnergy - roadEnergy net k = step .fits .within .no-larger .0 in
+        let small-time : time energy (weight rest) ≤ wholeTime - roadTime net k = step .fits .within .no-larger .1 in
         (omega (arith, step .fits .energy-fits), omega (arith, step .fits .time-fits))
 
     -- the road and the rest are the whole
-    pub step-whole : weights energy ._⊕_ (roadPair net k) (pair (seconds - roadTime net k) (units - roadEnergy net k)) ≡ pair seconds units
+    pub step-whole : weights energy ._⊕_ (roadPair net k) (pair (wholeTime - roadTime net k) (wholeEnergy - roadEnergy net k)) ≡ pair wholeTime wholeEnergy
     step-whole = rest-adds net k (step .fits .time-fits) (step .fits .energy-fits)
 
-    rest-weighs : weight rest ≡ pair (seconds - roadTime net k) (units - roadEnergy net k)
+    rest-weighs : weight rest ≡ pair (wholeTime - roadTime net k) (wholeEnergy - roadEnergy net k)
     rest-weighs =
         ⊕-cancel-eq-right (weights-lawful number-lawful) (roadPair net k) (covering-spends number-lawful line step-arc rest covers ∙ sym step-whole)
 
     -- the rest is unbeaten
-    pub step-line : Skyline (networkOf net) (otherEnd net x k) y (pair (seconds - roadTime net k) (units - roadEnergy net k))
+    pub step-line : Skyline (networkOf net) (otherEnd net x k) y (pair (wholeTime - roadTime net k) (wholeEnergy - roadEnergy net k))
     step-line = rw rest-weighs at (rest-skyline number-lawful line step-arc rest covers)
 
     -- no junction before the road's other end has a walk that spends the rest
-    smallest : Smallest (networkOf net) (λ z. z ≡ pair seconds units) x y (otherEnd net x k)
+    smallest : Smallest (networkOf net) (λ z. z ≡ pair wholeTime wholeEnergy) x y (otherEnd net x k)
     smallest v w other = pick (decLe (other .number) k) (ℕ-discrete (other .number) k)
       where
         ends : v ≡ otherEnd net x (other .number)
@@ -216,7 +215,7 @@ module _ {net : List ℕ} (fits : NetworkFits net) where
     -- the first route of the rest, with x before it, is the first route of the whole
     pub step-route :
         (x ≡ y → ⊥) → {ks : List ℕ} →
-        FirstRoute (networkOf net) (otherEnd net x k) y (pair (seconds - roadTime net k) (units - roadEnergy net k)) ks →
-        FirstRoute (networkOf net) x y (pair seconds units) (x ∷ ks)
+        FirstRoute (networkOf net) (otherEnd net x k) y (pair (wholeTime - roadTime net k) (wholeEnergy - roadEnergy net k)) ks →
+        FirstRoute (networkOf net) x y (pair wholeTime wholeEnergy) (x ∷ ks)
     step-route apart z =
         first-step apart (firstAmong-same (λ w. let same = rest-of-only-arc number-lawful (networkOf net) step-arc (λ n p a. one-weight fits a step-arc) step-whole (weight w) in (same .1, same .0)) z) smallest

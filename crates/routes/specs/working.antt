@@ -1,7 +1,3 @@
--- What the first route and the whole list of an accepted set are, as the code hands them back. Read in this order.
-pub mod Reach
-pub mod Searched
-pub mod Climbing
+-- What the first route of an accepted set is, as the code hands it back. Read in this order.
 pub mod Steps
-pub mod Noting
 pub mod Written

@@ -13,10 +13,8 @@ returns c = search (route-not-accepted)
 
 answer-route-requires : tie.Need-answer-route-requires
 answer-route-requires c κs =
-    let passed = c .before .before .before .before in
-    let accepting = passed .before .accept .ensures in
-    let none = passed .if1 .left in
-    (ready-for-queries accepting none, (accepting .filled none .grouped, search needs))
+    let passed = c .before .before .before in
+    ready-for-queries (passed .before .accept .ensures) (passed .if1 .left)
 
 same-length : tie.Need-same-length
 same-length c = search needs

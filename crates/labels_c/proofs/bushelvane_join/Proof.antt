@@ -1,4 +1,4 @@
--- Join, its answer as a struct.
+-- The struct holds the number and the count of the answer that Join states.
 use Rattle.labels_c.proofs.Passed.{join-passed}
 use borrow.Author.Needs.{needs}
 use Rattle.labels_c.proofs.bushelvane_join.Statement.{statement}

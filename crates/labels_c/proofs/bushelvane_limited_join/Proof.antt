@@ -1,4 +1,4 @@
--- Limited join, its answer as a struct.
+-- The struct holds the number and the sum of the answer that Limited join states.
 use Rattle.labels_c.proofs.Passed.{sum-passed}
 use borrow.Author.Needs.{needs}
 use Rattle.labels_c.proofs.bushelvane_limited_join.Statement.{statement}

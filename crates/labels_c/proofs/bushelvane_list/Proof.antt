@@ -1,4 +1,4 @@
--- Trade-off list, its answer as a struct.
+-- The struct holds the number and the count of the answer that Trade-off list states.
 use Rattle.labels_c.proofs.Passed.{list-passed}
 use borrow.Author.Needs.{needs}
 use Rattle.labels_c.proofs.bushelvane_list.Statement.{statement}

@@ -1,4 +1,4 @@
--- Route, its answer as a struct.
+-- The struct holds the number and the values of the answer that Route states.
 use Rattle.labels_c.proofs.Passed.{route-passed}
 use borrow.Author.Needs.{needs}
 use Rattle.labels_c.proofs.bushelvane_route.Statement.{statement}

@@ -12,24 +12,24 @@ use Rattle.stored.specs.Stored.{listsBefore, placeOf, listAt}
 
 -- The byte behind v's lists for its ancestors of depth k and deeper: where its list for the ancestor of depth k - 1 starts
 abbrev pub behind : List ℕ → ℕ → ℕ → ℕ
-behind s v k = placeOf s (listsBefore s v + (depthOf s v - k))
+behind labels v k = placeOf labels (listsBefore labels v + (depthOf labels v - k))
 
 -- The level is marked, and p is a sum of entries of the lists at two bytes
-pub record LevelSum (s marks : List ℕ) (level near far : ℕ) (p : Weight) : Type 0 where
+pub record LevelSum (labels marks : List ℕ) (level near far : ℕ) (p : Weight) : Type 0 where
   pub marked : getD marks level 0 ≡ 1
-  pub sum : IsSum energy (listAt s near) (listAt s far) p
+  pub sum : IsSum energy (listAt labels near) (listAt labels far) p
 
 -- p is a sum at a marked level from `low` up to below `high`
-pub record MarkedSum (s marks : List ℕ) (x y low high : ℕ) (p : Weight) : Type 0 where
+pub record MarkedSum (labels marks : List ℕ) (x y low high : ℕ) (p : Weight) : Type 0 where
   pub level : ℕ
   pub not-below : low ≤ level
   pub not-above : level < high
-  pub here : LevelSum s marks level (behind s x (suc level)) (behind s y (suc level)) p
+  pub here : LevelSum labels marks level (behind labels x (suc level)) (behind labels y (suc level)) p
 
 -- l stands above x and above y: how their lists for l and for what is above l are reached
-pub record Branches (s : List ℕ) (x y l : ℕ) : Type 0 where
-  pub x-on-map : x < junctionsOf s
-  pub y-on-map : y < junctionsOf s
-  pub l-on-map : l < junctionsOf s
-  pub below-x : depthOf s l < depthOf s x
-  pub below-y : depthOf s l < depthOf s y
+pub record Branches (labels : List ℕ) (x y l : ℕ) : Type 0 where
+  pub x-on-map : x < junctionsOf labels
+  pub y-on-map : y < junctionsOf labels
+  pub l-on-map : l < junctionsOf labels
+  pub below-x : depthOf labels l < depthOf labels x
+  pub below-y : depthOf labels l < depthOf labels y

@@ -9,18 +9,21 @@ use Rattle.accepted.proofs.batch.answer_all.Statement.{statement}
 use Rattle.accepted.proofs.batch.answer_all.Tie as tie
 
 abbrev Inv-loop : tie.InvT-loop
-Inv-loop net labels depths starts queries count answers₀ i₀ answers i =
+Inv-loop net labels depths tables queries count answers₀ i₀ answers i =
     (i ≤ count) × Triples queries answers₀ count × AnsweredTo net queries answers₀ answers i
 
 abbrev μ-loop : tie.MeasureT-loop
-μ-loop net labels depths starts queries count answers₀ i₀ answers i =
+μ-loop net labels depths tables queries count answers₀ i₀ answers i =
     count - i
 
 loop-holds : tie.Need-loop-holds Inv-loop μ-loop
 loop-holds c = (omega arith, search needs, none-answered)
 
-mul-at : tie.Need-mul-at Inv-loop μ-loop
-mul-at c = search needs
+mul-asked : tie.Need-mul-asked Inv-loop μ-loop
+mul-asked c = search needs
+
+mul-written : tie.Need-mul-written Inv-loop μ-loop
+mul-written c = search needs
 
 mul-answer : tie.Need-mul-answer Inv-loop μ-loop
 mul-answer c = search needs
@@ -63,7 +66,7 @@ loop-again c =
     let held = c .before .before .before .before .before .before .before .before .before .loop .inv in (
       omega arith,
       held .1,
-      one-answered (held .1) (omega arith) refl (held .2) (c .before .before .before .before .answer .ensures) (c .before .before .put-answer .ensures),
+      one-answered (held .1) (omega arith) (omega arith) (omega arith) (held .2) (c .before .before .before .before .answer .ensures) (c .before .before .put-answer .ensures),
     )
 
 same-length : tie.Need-same-length Inv-loop μ-loop
@@ -79,7 +82,8 @@ answer-all-spec =
     Inv-loop
     μ-loop
     loop-holds
-    mul-at
+    mul-asked
+    mul-written
     mul-answer
     shared-slice-read-answer
     add-answer

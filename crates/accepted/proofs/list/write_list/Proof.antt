@@ -9,10 +9,10 @@ junctions-of-requires : tie.Need-junctions-of-requires
 junctions-of-requires c κs = search needs
 
 returns : tie.Need-returns
-returns c = search (start-off-map)
+returns c = (search (start-off-map), search needs)
 
 returns-2 : tie.Need-returns-2
-returns-2 c = search (finish-off-map)
+returns-2 c = (search (finish-off-map), search needs)
 
 list-on-map-requires : tie.Need-list-on-map-requires
 list-on-map-requires c κs =

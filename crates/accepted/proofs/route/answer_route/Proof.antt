@@ -13,10 +13,10 @@ enum-known-found c = search needs
 
 put-route-requires : tie.Need-put-route-requires
 put-route-requires c κs =
-    let asked = c .before .before .before .before .before in
+    let asked = c .before .before .before .before in
     let pre = asked .before .before .before .before .pre in
-    let pair-found = answered-zero (found-zero (c .before .before .before .found .given .1) (asked .answer .ensures)) in
-    (pre .0, (pre .1 .0, ((pair-found .start-on-map, pair-found .finish-on-map), (found-skyline pair-found, pre .1 .1))))
+    let pair-found = answered-zero (found-zero (c .before .before .found .given .1) (asked .answer .ensures)) in
+    (pre, ((pair-found .start-on-map, pair-found .finish-on-map), found-skyline pair-found))
 
 enum-told : tie.Need-enum-told
 enum-told c = search needs
@@ -31,16 +31,16 @@ same-length : tie.Need-same-length
 same-length c = search needs
 
 returns : tie.Need-returns
-returns c = search (answered-found)
+returns c = (search (answered-found), search needs)
 
 returns-2 : tie.Need-returns-2
-returns-2 c = search (answered-off-map)
+returns-2 c = (search (answered-off-map), search needs)
 
 returns-3 : tie.Need-returns-3
-returns-3 c = search (answered-not-connected)
+returns-3 c = (search (answered-not-connected), search needs)
 
 returns-4 : tie.Need-returns-4
-returns-4 c = search (answered-over-limit)
+returns-4 c = (search (answered-over-limit), search needs)
 
 pub answer-route-spec : {M : Type 1} → statement M
 answer-route-spec =

@@ -7,14 +7,14 @@ use borrow.Author.Needs.{needs}
 use Rattle.query.proofs.limited.answer.Statement.{statement}
 use Rattle.query.proofs.limited.answer.Tie as tie
 
-u16-at-requires : tie.Need-u16-at-requires
-u16-at-requires c κs = search needs
+junctions-of-requires : tie.Need-junctions-of-requires
+junctions-of-requires c κs = search needs
 
 returns : tie.Need-returns
-returns c = off-map (inl (omega (arith, c .before .u16-at .ensures .is))) refl refl refl
+returns c = off-map (inl (omega (arith, c .before .junctions-of .ensures .is))) refl refl refl
 
 returns-2 : tie.Need-returns-2
-returns-2 c = off-map (inr (omega (arith, c .before .before .u16-at .ensures .is))) refl refl refl
+returns-2 c = off-map (inr (omega (arith, c .before .before .junctions-of .ensures .is))) refl refl refl
 
 best-requires : tie.Need-best-requires
 best-requires c κs = search needs
@@ -23,4 +23,4 @@ returns-3 : tie.Need-returns-3
 returns-3 c = search needs
 
 pub answer-spec : {M : Type 1} → statement M
-answer-spec = tie.close (tie.spec u16-at-requires returns returns-2 best-requires returns-3)
+answer-spec = tie.close (tie.spec junctions-of-requires returns returns-2 best-requires returns-3)

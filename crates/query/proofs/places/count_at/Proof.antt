@@ -4,8 +4,8 @@ use borrow.Author.Needs.{needs}
 use Rattle.query.proofs.places.count_at.Statement.{statement}
 use Rattle.query.proofs.places.count_at.Tie as tie
 
-u16-at-requires : tie.Need-u16-at-requires
-u16-at-requires c κs = count-stands (c .before .pre)
+count-requires : tie.Need-count-requires
+count-requires c κs = count-stands (c .before .pre)
 
 cast-result : tie.Need-cast-result
 cast-result c = search needs
@@ -14,4 +14,4 @@ returns : tie.Need-returns
 returns c = search needs
 
 pub count-at-spec : {M : Type 1} → statement M
-count-at-spec = tie.close (tie.spec u16-at-requires cast-result returns)
+count-at-spec = tie.close (tie.spec count-requires cast-result returns)

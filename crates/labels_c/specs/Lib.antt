@@ -1,2 +1,0 @@
--- What the C functions state that the calls do not.
-pub mod Part
