@@ -16,7 +16,7 @@ cast-to c = search needs
 
 route-requires : tie.Need-route-requires
 route-requires c κs =
-    let held = c .before .before .before .before .before .pre in
+    let held = c .before .before .before .before .before .before .pre in
     let found = answered-zero (held .1 .0) in
     (held .0, ((found .start-on-map, found .finish-on-map), (found-skyline found, length-replicate {A = ℕ} 1024 0)))
 
@@ -24,7 +24,7 @@ put-found-line-requires : tie.Need-put-found-line-requires
 put-found-line-requires c κs =
     let route = c .before .before .route .ensures in
     let sized = route-sized (route .0) in
-    ((sized .some, omega (arith, sized .few, route .1), route .1), c .before .before .before .before .before .before .before .before .pre .1 .1)
+    ((sized .some, omega (arith, sized .few, route .1), route .1), c .before .before .before .before .before .before .before .before .before .pre .1 .1)
 
 same-length : tie.Need-same-length
 same-length c = search needs
