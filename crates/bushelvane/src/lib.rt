@@ -22,7 +22,7 @@ pub struct Best {
 }
 
 #[repr(C)]
-pub struct RouteGiven {
+pub struct BestRoute {
     pub number: u32,
     pub time: u32,
     pub energy: u32,
@@ -30,7 +30,7 @@ pub struct RouteGiven {
 }
 
 #[repr(C)]
-pub struct Counted {
+pub struct Count {
     pub number: u32,
     pub count: u32,
 }
@@ -62,13 +62,13 @@ pub extern "C" fn bushelvane_batch(
     labels::batch(net, labels, queries, answers)
 }
 
-fn route_values(answer: RouteAnswer) -> RouteGiven
+fn route_values(answer: RouteAnswer) -> BestRoute
     ensures { λ r.
         ⌜ (r .number ≡ routeNumberOf answer) × (r .time ≡ routeTimeOf answer) × (r .energy ≡ routeEnergyOf answer)
         × (r .count ≡ routeCountOf answer) ⌝ }
 {
     match answer {
-        RouteAnswer::Routed(time, energy, count) => RouteGiven {
+        RouteAnswer::Routed(time, energy, count) => BestRoute {
             number: 0,
             time: time.0,
             energy: energy.0,
@@ -83,10 +83,10 @@ fn route_values(answer: RouteAnswer) -> RouteGiven
 }
 
 // A refusal carries zeros beside its number.
-fn no_route(number: u32) -> RouteGiven
+fn no_route(number: u32) -> BestRoute
     ensures { λ r. ⌜ (r .number ≡ number) × (r .time ≡ 0) × (r .energy ≡ 0) × (r .count ≡ 0) ⌝ }
 {
-    RouteGiven {
+    BestRoute {
         number: number,
         time: 0,
         energy: 0,
@@ -102,7 +102,7 @@ pub extern "C" fn bushelvane_route(
     t: u32,
     limit: u32,
     junctions: &mut [u32],
-) -> RouteGiven
+) -> BestRoute
     ensures { λ r.
         ⌜ Routed (now (net .entry)) (now (labels .entry)) s t limit (now (junctions .entry))
         (r .number) (r .time) (r .energy) (r .count) (now (junctions .exit)) ⌝ }
@@ -111,11 +111,11 @@ pub extern "C" fn bushelvane_route(
     route_values(answer)
 }
 
-fn list_values(answer: ListAnswer) -> Counted
+fn list_values(answer: ListAnswer) -> Count
     ensures { λ r. ⌜ (r .number ≡ listNumberOf answer) × (r .count ≡ listCountOf answer) ⌝ }
 {
     match answer {
-        ListAnswer::Listed(count) => Counted {
+        ListAnswer::Listed(count) => Count {
             number: 0,
             count: count,
         },
@@ -126,10 +126,10 @@ fn list_values(answer: ListAnswer) -> Counted
     }
 }
 
-fn no_count(number: u32) -> Counted
+fn no_count(number: u32) -> Count
     ensures { λ r. ⌜ (r .number ≡ number) × (r .count ≡ 0) ⌝ }
 {
-    Counted {
+    Count {
         number: number,
         count: 0,
     }
@@ -143,7 +143,7 @@ pub extern "C" fn bushelvane_list(
     t: u32,
     times: &mut [u32],
     energies: &mut [u32],
-) -> Counted
+) -> Count
     ensures { λ r.
         ⌜ Listed (now (net .entry)) (now (labels .entry)) s t (now (times .entry)) (now (energies .entry))
         (r .number) (r .count) (now (times .exit)) (now (energies .exit)) ⌝ }
@@ -152,11 +152,11 @@ pub extern "C" fn bushelvane_list(
     list_values(answer)
 }
 
-fn join_values(answer: JoinAnswer) -> Counted
+fn join_values(answer: JoinAnswer) -> Count
     ensures { λ r. ⌜ (r .number ≡ joinNumberOf answer) × (r .count ≡ joinCountOf answer) ⌝ }
 {
     match answer {
-        JoinAnswer::Joined(count) => Counted {
+        JoinAnswer::Joined(count) => Count {
             number: 0,
             count: count,
         },
@@ -174,7 +174,7 @@ pub extern "C" fn bushelvane_join(
     more_energies: &[u32],
     out_times: &mut [u32],
     out_energies: &mut [u32],
-) -> Counted
+) -> Count
     ensures { λ r.
         ⌜ Join (now (times .entry)) (now (energies .entry)) (now («more_times» .entry)) (now («more_energies» .entry))
         (now («out_times» .entry)) (now («out_energies» .entry)) (r .number) (r .count)

@@ -1,8 +1,8 @@
 -- The struct holds the number and the sum of the answer that Limited join states.
-use Rattle.labels_c.proofs.Passed.{sum-passed}
+use Rattle.bushelvane.proofs.Passed.{sum-passed}
 use borrow.Author.Needs.{needs}
-use Rattle.labels_c.proofs.bushelvane_limited_join.Statement.{statement}
-use Rattle.labels_c.proofs.bushelvane_limited_join.Tie as tie
+use Rattle.bushelvane.proofs.bushelvane_limited_join.Statement.{statement}
+use Rattle.bushelvane.proofs.bushelvane_limited_join.Tie as tie
 
 limited-join-requires : tie.Need-limited-join-requires
 limited-join-requires c κs = search needs

@@ -1,8 +1,8 @@
 -- The struct holds the number and the count of the answer that Trade-off list states.
-use Rattle.labels_c.proofs.Passed.{list-passed}
+use Rattle.bushelvane.proofs.Passed.{list-passed}
 use borrow.Author.Needs.{needs}
-use Rattle.labels_c.proofs.bushelvane_list.Statement.{statement}
-use Rattle.labels_c.proofs.bushelvane_list.Tie as tie
+use Rattle.bushelvane.proofs.bushelvane_list.Statement.{statement}
+use Rattle.bushelvane.proofs.bushelvane_list.Tie as tie
 
 list-requires : tie.Need-list-requires
 list-requires c κs = search needs

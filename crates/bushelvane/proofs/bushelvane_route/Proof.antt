@@ -1,8 +1,8 @@
 -- The struct holds the number and the values of the answer that Route states.
-use Rattle.labels_c.proofs.Passed.{route-passed}
+use Rattle.bushelvane.proofs.Passed.{route-passed}
 use borrow.Author.Needs.{needs}
-use Rattle.labels_c.proofs.bushelvane_route.Statement.{statement}
-use Rattle.labels_c.proofs.bushelvane_route.Tie as tie
+use Rattle.bushelvane.proofs.bushelvane_route.Statement.{statement}
+use Rattle.bushelvane.proofs.bushelvane_route.Tie as tie
 
 route-requires : tie.Need-route-requires
 route-requires c κs = search needs

@@ -1,8 +1,8 @@
 -- The struct holds the number and the count of the answer that Join states.
-use Rattle.labels_c.proofs.Passed.{join-passed}
+use Rattle.bushelvane.proofs.Passed.{join-passed}
 use borrow.Author.Needs.{needs}
-use Rattle.labels_c.proofs.bushelvane_join.Statement.{statement}
-use Rattle.labels_c.proofs.bushelvane_join.Tie as tie
+use Rattle.bushelvane.proofs.bushelvane_join.Statement.{statement}
+use Rattle.bushelvane.proofs.bushelvane_join.Tie as tie
 
 join-requires : tie.Need-join-requires
 join-requires c κs = search needs
