@@ -18,7 +18,7 @@ pub fn row(files: &Files) {
     let asked = asked(files, None);
     let queries = batch(&asked);
     let mut answers = vec![0; queries.len()];
-    let mut set = Accepted::new(net, labels).expect("the labels are right");
+    let set = Accepted::new(net, labels).expect("the labels are right");
     let check = single(|| proved::check(black_box(net), black_box(labels)));
     let triples = single(|| set.answer_all(&queries, &mut answers)) / asked.len() as u32;
     let found = found(&asked, &answers);

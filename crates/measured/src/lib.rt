@@ -145,10 +145,10 @@ pub extern "C" fn measured_limited_join(
         ⌝ }
 {
     match limited_join(times, energies, more_times, more_energies, limit) {
-        SumAnswer::Found(time, units) => MeasuredBest {
+        SumAnswer::Found(time, energy) => MeasuredBest {
             number: 0,
             time: time.0,
-            energy: units.0,
+            energy: energy.0,
         },
         SumAnswer::LengthsDiffer => MeasuredBest {
             number: 41,
