@@ -62,9 +62,9 @@ network-most serves net = decided-most (headerNumber serves net) (header-most se
 entry-most : (labels : List ℕ) (at j : ℕ) → entryNumber labels at j ≤ 18
 unfolding entryNumber
 entry-most labels at j =
-    unless-most (leb (timeEnd at j) (length labels)) 11 (omega arith)
+    unless-most (leb (timeEnd labels at j) (length labels)) 11 (omega arith)
     (unless-most (timeFits labels at j) 17 (omega arith)
-    (unless-most (leb (energyEnd at j) (length labels)) 11 (omega arith)
+    (unless-most (leb (energyEnd labels at j) (length labels)) 11 (omega arith)
     (unless-most (energyFits labels at j) 17 (omega arith) none-most)))
 
 list-most : (labels : List ℕ) (at : ℕ) → listNumber labels at ≤ 18
