@@ -15,7 +15,7 @@ use stored::place::number_of;
 use stored::stored::count_at;
 
 // Where the list that is tested stands, and how many entries it has.
-#[derive(Drop)]
+#[derive(Clone, Copy)]
 pub struct OwnList {
     pub at: usize,
     pub count: usize,

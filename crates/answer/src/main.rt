@@ -1,4 +1,6 @@
 // Answers the query lines of standard input on net.trn and labels.tlb.
+#![tactic(auto)]
+
 use libc::{STDIN_FILENO, STDOUT_FILENO};
 use replies::program::run;
 

@@ -1,5 +1,7 @@
 // The calls for C and Rust: functions of `labels` under C names, their statements passed on. An answer that is an enum there is a
 // struct of its number and values here.
+#![tactic(auto)]
+
 ghost use Rattle.std.specs.Prelude.{◌≡◌};
 ghost use Rattle.joins.specs.Answers.{Join, LimitedJoin, join_number_of, join_count_of, sum_number_of, sum_time_of, sum_energy_of};
 ghost use Rattle.accepted.specs.Check.{Checked};
@@ -13,7 +15,7 @@ ghost use Rattle.labels.specs.Part.{PartShown};
 use labels::{JoinAnswer, ListAnswer, RouteAnswer, SumAnswer};
 
 #[repr(C)]
-#[derive(Drop)]
+#[derive(Clone, Copy)]
 pub struct Best {
     pub number: u32,
     pub time: u32,
@@ -21,7 +23,7 @@ pub struct Best {
 }
 
 #[repr(C)]
-#[derive(Drop)]
+#[derive(Clone, Copy)]
 pub struct BestRoute {
     pub number: u32,
     pub time: u32,
@@ -30,7 +32,7 @@ pub struct BestRoute {
 }
 
 #[repr(C)]
-#[derive(Drop)]
+#[derive(Clone, Copy)]
 pub struct Count {
     pub number: u32,
     pub count: u32,
@@ -38,7 +40,7 @@ pub struct Count {
 
 // Length 0: the empty part.
 #[repr(C)]
-#[derive(Drop)]
+#[derive(Clone, Copy)]
 pub struct Part {
     pub at: usize,
     pub length: usize,

@@ -1,4 +1,6 @@
 // Runs the calls on the networks of data/ and prints what each gives, with every lent place: 9999 is one that was not written.
+#![tactic(auto)]
+
 ghost use Rattle.io.specs.Counts.{IsPrefixLen};
 
 use labels::{ListAnswer, RouteAnswer};

@@ -1,4 +1,6 @@
 // Runs every case of data/ through the check, and prints its note and its number.
+#![tactic(auto)]
+
 ghost use Rattle.io.specs.Counts.{IsPrefixLen};
 
 use libc::STDOUT_FILENO;

@@ -1,4 +1,6 @@
 // Numbers in files, little-endian, and the mark that a file begins with.
+#![tactic(auto)]
+
 ghost use Rattle.std.specs.Prelude.{◌≡◌, ◌+◌, ◌≤◌, ◌<◌, length};
 ghost use Rattle.file_bytes.specs.Bytes.{u32_at, marked};
 ghost use Rattle.file_bytes.specs.working.Reads.{ReadU16};

@@ -16,7 +16,7 @@ use network::versions::version_one;
 use stored::place::find_list;
 
 // The bytes from one place up to another.
-#[derive(Drop)]
+#[derive(Clone, Copy)]
 pub struct Span {
     pub start: usize,
     pub end: usize,

@@ -1,6 +1,8 @@
 // The calls of Bushelvane. Each takes arbitrary bytes and numbers, always ends, and states its number, its values and every lent
 // place for all inputs; a refusal carries zeros and changes nothing lent. What the statements mean is said in specs/, one file a
 // call, in the words of docs/SCOPE.md. An answer that is an enum is handed on from where it is made: a caller names this crate alone.
+#![tactic(auto)]
+
 ghost use Rattle.std.specs.Prelude.{◌+◌, ◌≤◌, ◌≡◌, length};
 ghost use Rattle.joins.specs.Answers.{Join, LimitedJoin, join_number_of, join_count_of, sum_number_of, sum_time_of, sum_energy_of};
 ghost use Rattle.stored.specs.Stored.{list_place};
@@ -19,7 +21,7 @@ pub use accepted::{ListAnswer, RouteAnswer};
 pub use joins::{JoinAnswer, SumAnswer};
 
 // A part of lent bytes: where it begins, and how many bytes it has.
-#[derive(Drop)]
+#[derive(Clone, Copy)]
 pub struct Part {
     pub at: usize,
     pub length: usize,

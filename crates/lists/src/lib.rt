@@ -1,8 +1,9 @@
 // Trade-off lists in two slices, times and energies: the best sum under a limit.
 // A list has energy strictly rising and time strictly falling.
+#![tactic(auto)]
 
 // Where the best sum stands: a place in the first list and one in the second, or no sum is within the limit.
-#[derive(Drop)]
+#[derive(Clone, Copy)]
 pub enum Places {
     At(usize, usize),
     Nowhere,

@@ -9,7 +9,7 @@ use paths::energy::Energy;
 use paths::seconds::Seconds;
 
 // A sum of an entry of the first list and one of the second: their places, and its time and energy.
-#[derive(Drop)]
+#[derive(Clone, Copy)]
 pub struct Sum {
     pub first: usize,
     pub second: usize,

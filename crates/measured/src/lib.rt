@@ -1,4 +1,6 @@
 // What bench/ measures, exported to Rust. Each function hands its arguments on, so its time is that of the function measured.
+#![tactic(auto)]
+
 ghost use Rattle.std.specs.Prelude.{◌≡◌, ◌<◌, length};
 ghost use Rattle.tables.specs.working.Layout.{table_places};
 ghost use Rattle.paths.specs.Weights.{pair};
@@ -30,7 +32,7 @@ use unbeaten::join::join;
 
 // What Join and Trade-off list answer, for a caller in Rust: the number of a refusal and no count, or 0 and the places filled.
 #[repr(C)]
-#[derive(Drop)]
+#[derive(Clone, Copy)]
 pub struct MeasuredCount {
     pub number: u32,
     pub count: u32,
@@ -38,7 +40,7 @@ pub struct MeasuredCount {
 
 // What Limited join answers: the number it refuses by beside zeros, or 0 and the best sum.
 #[repr(C)]
-#[derive(Drop)]
+#[derive(Clone, Copy)]
 pub struct MeasuredBest {
     pub number: u32,
     pub time: u32,
@@ -47,7 +49,7 @@ pub struct MeasuredBest {
 
 // A time beside an energy.
 #[repr(C)]
-#[derive(Drop)]
+#[derive(Clone, Copy)]
 pub struct MeasuredPair {
     pub time: u32,
     pub energy: u32,

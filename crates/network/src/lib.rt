@@ -1,4 +1,6 @@
 // The network file: every byte has one reading.
+#![tactic(auto)]
+
 pub mod header;
 pub mod network;
 pub mod roads;

@@ -5,7 +5,7 @@ ghost use Rattle.network.specs.Versions.{served, version_one, least_energy};
 use paths::energy::Energy;
 
 // The versions that are served: from the first to the last.
-#[derive(Drop)]
+#[derive(Clone, Copy)]
 pub struct Served {
     pub first: u32,
     pub last: u32,

@@ -115,7 +115,7 @@ record Placed (l : List Weight) (p : Weight) : Type 0 where
   after : List Weight
   splits : l ≡ before ++ (p ∷ after)
 
-placed : {l : List Weight} {p : Weight} → Memᴰ p l → Placed l p
+placed : {p : Weight} {l : List Weight} → Memᴰ p l → Placed l p
 placed (Memᴰ.head {xs = xs} e) = record { before = []; after = xs; splits = ap (λ z. z ∷ xs) (sym e) }
 placed (Memᴰ.tail {x = x} m) =
     let z = placed m in record { before = x ∷ z.before; after = z.after; splits = ap (λ k. x ∷ k) z.splits }

@@ -32,7 +32,7 @@ module _ {𝓛 : Figures} (lawful : Lawful 𝓛) where
   rising_unique {l = []} {k = q ∷ k} r s f g = absurd (Memᴰ.not-nil (g q (Memᴰ.head refl)))
   rising_unique {l = p ∷ l} {k = []} r s f g = absurd (Memᴰ.not-nil (f p (Memᴰ.head refl)))
   rising_unique {l = p ∷ l} {k = q ∷ k} r s f g =
-      ap₂ ◌∷◌ heads (rising_unique (rising_tail r) (rising_tail s) (λ x m. inside r heads (f x (Memᴰ.tail m)) m) (λ x m. inside s (sym heads) (g x (Memᴰ.tail m)) m))
+      ap₂ ◌∷◌ heads (rising_unique {l = l} {k = k} (rising_tail r) (rising_tail s) (λ x m. inside r heads (f x (Memᴰ.tail m)) m) (λ x m. inside s (sym heads) (g x (Memᴰ.tail m)) m))
     where
       heads : p ≡ q
       heads = pick (Memᴰ.cases_cons (f p (Memᴰ.head refl))) (Memᴰ.cases_cons (g q (Memᴰ.head refl)))

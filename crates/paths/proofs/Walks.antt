@@ -68,9 +68,9 @@ module _ {𝓛 : Figures} {𝓝 : Network 𝓛} where
 
   pub last : {s v t r : ℕ} {p : (weights 𝓛).Figure} (a : 𝓝.Arc s v r p) (w : Walk 𝓝 v t) → Last (go a w)
   unfolding ◌then◌ arcs single
-  last {r = r} {p = p} a stay = record { from = _; number = r; weighs = p; front = stay; arc = a; whole = refl; shorter = omega arith }
-  last a (go b w) =
-      let z = last b w in
+  last {s = s} {r = r} {p = p} a stay = record { from = _; number = r; weighs = p; front = stay; arc = a; whole = refl; shorter = omega arith }
+  last {s = s} {r = r} {p = p} a (go {s = s'} {v = v} b w) =
+      let z = last {s = s'} b w in
       record {
         from = z.from;
         number = z.number;

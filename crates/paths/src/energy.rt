@@ -1,7 +1,7 @@
 ghost use Rattle.std.specs.Prelude.{◌≡◌, ◌+◌, ◌<◌, ◌^◌, leb, ltb, eqb};
 
 // An energy in units of 10 Wh.
-#[derive(Drop)]
+#[derive(Clone, Copy)]
 pub struct Energy(pub u32);
 
 impl Energy {

@@ -1,7 +1,7 @@
 ghost use Rattle.std.specs.Prelude.{◌≡◌, ◌+◌, ◌<◌, ◌^◌, leb, ltb, eqb};
 
 // A time in seconds.
-#[derive(Drop)]
+#[derive(Clone, Copy)]
 pub struct Seconds(pub u32);
 
 impl Seconds {

@@ -13,7 +13,7 @@ use stored::place::Place;
 use stored::stored::{energy_at, time_at};
 
 // A sum of two entries and where it stands: entry i of the list at byte `near` and entry j of the list at byte `far`.
-#[derive(Drop)]
+#[derive(Clone, Copy)]
 pub struct Sum {
     pub time: Seconds,
     pub energy: Energy,
@@ -24,7 +24,7 @@ pub struct Sum {
 }
 
 // What is known of the best: the sum, and whether there is any, be it over the limit.
-#[derive(Drop)]
+#[derive(Clone, Copy)]
 pub struct Best {
     pub connected: bool,
     pub sum: Sum,

@@ -15,7 +15,7 @@ use stored::place::Place;
 use tables::{STARTS, entry_at};
 
 // The climb of a junction: an ancestor of it, at first the junction itself, and the byte of its list for that one's parent.
-#[derive(Drop)]
+#[derive(Clone, Copy)]
 pub struct Climb {
     pub from: usize,
     pub up: usize,

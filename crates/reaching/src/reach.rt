@@ -27,7 +27,7 @@ use stored::stored::{energy_at, time_at};
 pub const NONE_HELD: usize = 1024;
 
 // Two junctions, of which paths lead from the first to the second.
-#[derive(Drop)]
+#[derive(Clone, Copy)]
 pub struct Ends {
     pub from: usize,
     pub to: usize,

@@ -1,7 +1,8 @@
 // What the program `answer` prints: one reply for each query line, on files that were checked once.
+#![tactic(auto)]
 
 // The three numbers of a query line.
-#[derive(Drop)]
+#[derive(Clone, Copy)]
 pub struct Query {
     pub start: u32,
     pub finish: u32,
@@ -9,21 +10,21 @@ pub struct Query {
 }
 
 // The check's number, and how many bytes of the buffer the first line takes.
-#[derive(Drop)]
+#[derive(Clone, Copy)]
 pub struct Begun {
     pub number: u32,
     pub used: usize,
 }
 
 // Where the next line starts, and how many bytes of the buffer are used.
-#[derive(Drop)]
+#[derive(Clone, Copy)]
 pub struct Filled {
     pub next: usize,
     pub used: usize,
 }
 
 // How many bytes of the input were read, and how many bytes were handed on in all.
-#[derive(Drop)]
+#[derive(Clone, Copy)]
 pub struct HandedOn {
     pub read: usize,
     pub total: usize,

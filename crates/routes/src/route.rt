@@ -19,7 +19,7 @@ use query::Pair;
 use reaching::reach::{Ends, NONE_HELD, reaches};
 
 // A step on the way to a finish: the road to take from a junction.
-#[derive(Drop)]
+#[derive(Clone, Copy)]
 pub struct Step {
     pub here: usize,
     pub road: usize,

@@ -1,5 +1,7 @@
 // Sums noted by their times: for each second of a span the least energy of a sum that takes so long. One pass over the sums then tells
 // of many entries of a trade-off list, and no sum is compared with another. Whose sums they are is the caller's affair.
+#![tactic(auto)]
+
 ghost use Rattle.std.specs.Prelude.{◌≡◌, ◌+◌, ◌-◌, ◌≤◌, ◌<◌, ◌^◌, length};
 ghost use Rattle.spans.specs.working.Noting.{span_seconds, LoweredAt, Cleared, Sought};
 ghost use Rattle.spans.specs.working.Waiting.{NoSpan};
@@ -14,7 +16,7 @@ pub const SECONDS: usize = 2048;
 const NO_ENERGY: u32 = 4294967295;
 
 // The seconds that are noted, from the first on, and how many of them are passed.
-#[derive(Drop)]
+#[derive(Clone, Copy)]
 pub struct Span {
     pub first: Seconds,
     pub noted: usize,

@@ -13,7 +13,7 @@ use crate::stored::{count_at, entries_end};
 use tables::{STARTS, entry_at};
 
 // The byte where a list starts.
-#[derive(Drop)]
+#[derive(Clone, Copy)]
 pub struct Place {
     pub at: usize,
 }

@@ -14,7 +14,7 @@ use paths::energy::Energy;
 use paths::seconds::Seconds;
 
 // Lists that are passed one after another, none with a fault: how many, the byte behind them, and the entries counted.
-#[derive(Drop)]
+#[derive(Clone, Copy)]
 pub struct Run {
     pub lists: u32,
     pub at: usize,

@@ -177,7 +177,7 @@ pub fn list_number(labels: &[u8], least: Energy, at: usize) -> u32
 
 // What a pass over lists has come to: the number of the first fault or, at number 0, the byte behind the lists passed and the
 // entries counted.
-#[derive(Drop)]
+#[derive(Clone, Copy)]
 pub struct Scan {
     pub number: u32,
     pub at: usize,

@@ -10,7 +10,7 @@ use crate::QueryLine;
 const MOST: u64 = 4294967295;
 
 // What a byte is in a line: a digit with its value, one of the two other bytes that text is made of, or neither.
-#[derive(Drop)]
+#[derive(Clone, Copy)]
 enum Kind {
     Digit(u64),
     Space,
@@ -19,14 +19,14 @@ enum Kind {
 }
 
 // The digits from a byte on: where they end, and the number they spell, or one above MOST if it is above MOST.
-#[derive(Drop)]
+#[derive(Clone, Copy)]
 struct Digits {
     value: u64,
     next: usize,
 }
 
 // The number that stands at a byte and where it ends, or that none does.
-#[derive(Drop)]
+#[derive(Clone, Copy)]
 enum Number {
     Read(u32, usize),
     Bad,

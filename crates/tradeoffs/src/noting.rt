@@ -21,7 +21,7 @@ use stored::stored::energy_at;
 const CLOSE: usize = 256;
 
 // The best answer below a bound, and the span as it stands behind it.
-#[derive(Drop)]
+#[derive(Clone, Copy)]
 pub struct Next {
     pub answer: Answer,
     pub span: Span,

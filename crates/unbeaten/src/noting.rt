@@ -18,14 +18,14 @@ const SHORT: usize = 64;
 const LONG: usize = 2048;
 
 // The best sum below a bound, or that there is none.
-#[derive(Drop)]
+#[derive(Clone, Copy)]
 pub enum Below {
     Found(Seconds, Energy),
     Nothing,
 }
 
 // The best sum below a bound, and the span as it stands behind it.
-#[derive(Drop)]
+#[derive(Clone, Copy)]
 pub struct Next {
     pub below: Below,
     pub span: Span,
