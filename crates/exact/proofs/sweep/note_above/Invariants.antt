@@ -1,0 +1,11 @@
+-- Each turn notes the list for the next ancestor, and the list behind it is for the one above.
+use native.Mathlib.Omega.{arith}
+use borrow.Author.Rules.{rules}
+use Rattle.exact.proofs.Noting.{Noting, noting_none, reached-inside, here-inside, next_on_map, noting_more, noting_all}
+use Rattle.exact.proofs.sweep.note_above.Given as goal
+
+abbrev pub invariant-loop-k : goal.invariant-loop-k
+invariant-loop-k l = Noting l.labels l.u l.k l.w l.place.at l.initial.places l.places
+
+abbrev pub decreases-loop-k : goal.decreases-loop-k
+decreases-loop-k l = l.k

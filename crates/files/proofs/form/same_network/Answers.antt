@@ -1,0 +1,10 @@
+-- The two tests are those of `same_network`, in its order.
+use Rattle.files.proofs.FormTests.{other-size, same_size}
+use borrow.Author.Rules.{rules}
+use Rattle.files.proofs.form.same_network.Goals as goal
+
+pub returns-then-n-junctions : goal.returns-then-n-junctions
+returns-then-n-junctions c = search (other-size)
+
+pub returns : goal.returns
+returns c = search (same_size)

@@ -1,0 +1,20 @@
+-- The loop has passed every parent below v, and one that does not fit fails all.
+use native.Mathlib.Omega.{arith}
+use Rattle.forest.proofs.ParentLoops.{Passing, passing_start, passing_more, passing_fails, passing_end}
+use Prim.Native.Nat.{◌-◌}
+use Rattle.network.specs.NetworkFile.{junctions_of}
+use Rattle.forest.specs.Forest.{parent_fits}
+use borrow.Author.Rules.{rules}
+use Rattle.forest.proofs.parents.parents_fit.Goals as goal
+
+pub loop-v-init : goal.loop-v-init
+loop-v-init c = passing_start
+
+pub returns-then-not-parent_fits : goal.returns-then-not-parent_fits
+returns-then-not-parent_fits c = passing_fails c.loop-v.invariant (omega arith) c.parent_fits.ensures c.if-not-parent_fits.true
+
+pub loop-v-preserved : goal.loop-v-preserved
+loop-v-preserved c = passing_more c.loop-v.invariant (omega arith) c.parent_fits.ensures c.if-not-parent_fits.false
+
+pub returns : goal.returns
+returns c = passing_end c.loop-v.invariant (omega arith)

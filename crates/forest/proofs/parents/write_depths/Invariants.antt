@@ -1,0 +1,12 @@
+-- The parent of a junction at depth `left` is at depth `left` - 1, so each depth is written right.
+use Prim.Native.Nat.{◌-◌}
+use native.Mathlib.Omega.{arith}
+use Rattle.forest.proofs.ParentLoops.{Writing, writing_start, writing_done, parent_above, writing_more}
+use borrow.Author.Rules.{rules}
+use Rattle.forest.proofs.parents.write_depths.Given as goal
+
+abbrev pub invariant-loop-left : goal.invariant-loop-left
+invariant-loop-left l = Writing l.labels l.v l.initial.depths l.depths l.u l.left
+
+abbrev pub decreases-loop-left : goal.decreases-loop-left
+decreases-loop-left l = l.left

@@ -1,0 +1,14 @@
+-- The loop's invariant says what is known after i entries of the first list: their best sum, and that beside a later entry none of the second list from j on fits.
+use Rattle.lists.proofs.Walk.{Walked, energies_add, fit_whole, walk-empty, walk-nothing, walk_starts, walk-fits, walk_more, walk-stops, walk_ends}
+use mathlib.Core.Logic.{⊎_elim, inl, inr}
+use native.Mathlib.Omega.{arith}
+use lib.ListN.{length}
+use Prim.Native.Nat.{◌-◌}
+use borrow.Author.Rules.{rules}
+use Rattle.lists.proofs.sums.best_sum.Given as goal
+
+abbrev pub invariant-loop-i : goal.invariant-loop-i
+invariant-loop-i l = Walked l.times l.energies l.more_times l.more_energies l.limit.0 l.i l.j l.best
+
+abbrev pub decreases-loop-i : goal.decreases-loop-i
+decreases-loop-i l = length l.times - l.i

@@ -1,0 +1,19 @@
+-- Each arm of the match says the number and the count of the case that the answer is.
+use borrow.Author.Rules.{rules}
+use Rattle.measured.proofs.Cases.{list_case}
+use Rattle.measured.proofs.measured_list.Goals as goal
+
+pub returns-in-Listed : goal.returns-in-Listed
+returns-in-Listed c = list_case c.count-1.given.1 c.write_list.ensures.list_answered
+
+pub returns-in-NotAccepted : goal.returns-in-NotAccepted
+returns-in-NotAccepted c = list_case c.number-1.given.1 c.write_list.ensures.list_answered
+
+pub returns-in-OffMap : goal.returns-in-OffMap
+returns-in-OffMap c = list_case c.enum_told-1.given.1 c.write_list.ensures.list_answered
+
+pub returns-in-NotConnected : goal.returns-in-NotConnected
+returns-in-NotConnected c = list_case c.enum_told-in-NotConnected-1.given.1 c.write_list.ensures.list_answered
+
+pub returns-in-NoRoom : goal.returns-in-NoRoom
+returns-in-NoRoom c = list_case c.enum_told-in-NoRoom-1.given.1 c.write_list.ensures.list_answered

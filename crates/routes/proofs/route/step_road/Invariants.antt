@@ -1,0 +1,14 @@
+-- No road of the junction before k fits; the pair is a path's, so the search ends at a road that does.
+use mathlib.Core.Path.{◌∙◌}
+use Prim.Native.Nat.{◌-◌}
+use native.Mathlib.Omega.{arith}
+use Rattle.reaching.specs.working.Searched.{Held}
+use Rattle.routes.proofs.RouteSteps.{RoadSearch, search_start, search_more, search_later, search_found, search_never, road-follows}
+use borrow.Author.Rules.{rules}
+use Rattle.routes.proofs.route.step_road.Given as goal
+
+abbrev pub invariant-loop-k : goal.invariant-loop-k
+invariant-loop-k l = RoadSearch l.net l.here l.ends.to l.whole.time.0 l.whole.energy.0 l.k × Held l.net l.labels l.held l.marks
+
+abbrev pub decreases-loop-k : goal.decreases-loop-k
+decreases-loop-k l = l.roads - l.k

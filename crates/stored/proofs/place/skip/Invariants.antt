@@ -1,0 +1,14 @@
+-- After i moves the place is i lists further than it was.
+use mathlib.Core.Path.{◌≡◌}
+use Prim.Native.Nat.{◌≤◌, ◌-◌}
+use native.Mathlib.Omega.{arith}
+use borrow.Author.Rules.{rules}
+use Rattle.stored.specs.working.Scanned.{further}
+use Rattle.stored.proofs.Places.{Moved, moved_none, moved_inside, moved_more, moved_all}
+use Rattle.stored.proofs.place.skip.Given as goal
+
+abbrev pub invariant-loop-i : goal.invariant-loop-i
+invariant-loop-i l = Moved l.labels l.initial.place.at l.k l.i l.place.at
+
+abbrev pub decreases-loop-i : goal.decreases-loop-i
+decreases-loop-i l = l.k - l.i

@@ -1,0 +1,11 @@
+-- Both tests hold where the answer is true.
+use mathlib.Core.Bool.{false≢true}
+use Rattle.stored.proofs.ShortLists.{energy-follows}
+use borrow.Author.Rules.{rules}
+use Rattle.stored.proofs.runs.energy_follows.Goals as goal
+
+pub returns-then-not-at_most : goal.returns-then-not-at_most
+returns-then-not-at_most c = λ e. absurd (false≢true e)
+
+pub returns : goal.returns
+returns c = energy-follows c.at_most.ensures c.if-not-at_most.false c.below.ensures

@@ -1,0 +1,13 @@
+-- The invariant: the first j places of both slices hold the first j entries.
+use Prim.Native.Nat.{◌≤◌, ◌-◌}
+use native.Mathlib.Omega.{arith}
+use borrow.Author.Rules.{rules}
+use Rattle.forest.specs.LabelFile.{time_at, energy_at, list_end}
+use Rattle.stored.proofs.Tabulate.{Filling, filling-none, filling-more, filling_all}
+use Rattle.stored.proofs.stored.load.Given as goal
+
+abbrev pub invariant-loop-j : goal.invariant-loop-j
+invariant-loop-j l = (l.j ≤ l.count) × Filling (time_at l.labels l.at) l.initial.times l.j l.times × Filling (energy_at l.labels l.at) l.initial.energies l.j l.energies
+
+abbrev pub decreases-loop-j : goal.decreases-loop-j
+decreases-loop-j l = l.count - l.j

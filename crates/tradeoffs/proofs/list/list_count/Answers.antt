@@ -1,0 +1,23 @@
+-- No list, one list, two lists for each common ancestor: in each case the list counted is the one that is told.
+use mathlib.Core.Path.{refl}
+use Rattle.query.proofs.ListPlaces.{count-stands}
+use Rattle.tradeoffs.proofs.ListSteps.{some_more, counted-more, none_told, told_one, one_told, told_two, two_told, none-counted, stored-counted}
+use borrow.Author.Rules.{rules}
+use Rattle.tradeoffs.proofs.list.list_count.Goals as goal
+
+pub count-requires : goal.count-requires
+count-requires c = let one = some_more (told_one _ c.lists-1.given.1) c.requires in
+    count-stands one.right.fits
+
+pub count_joined-requires : goal.count_joined-requires
+count_joined-requires c = record { some_list = some_more (told_two _ c.lists-in-Lists-1.given.1) c.requires; leasts_len = refl }
+
+pub returns-in-Nothing : goal.returns-in-Nothing
+returns-in-Nothing c = counted-more (none_told _ c.enum_told-1.given.1) none-counted
+
+pub returns-in-List : goal.returns-in-List
+returns-in-List c = counted-more (one_told _ c.lists-1.given.1)
+    (stored-counted (some_more (told_one _ c.lists-1.given.1) c.requires) c.count.ensures.is)
+
+pub returns-in-Lists : goal.returns-in-Lists
+returns-in-Lists c = counted-more (two_told _ c.lists-in-Lists-1.given.1) c.count_joined.ensures
