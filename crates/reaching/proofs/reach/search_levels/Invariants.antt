@@ -1,0 +1,22 @@
+-- At the marked levels passed, and with the near entries passed at this level, no sum covers the pair; the first that does ends both loops.
+use mathlib.Core.Path.{◌≡◌, refl}
+use mathlib.Core.Bool.{false}
+use Prim.Native.Nat.{◌-◌}
+use native.Mathlib.Omega.{arith}
+use Rattle.query.proofs.ListPlaces.{entry-inside}
+use Rattle.query.proofs.Rows.{along-near, along_far, near_next, far_next, along-more}
+use Rattle.reaching.proofs.Searching.{ Pairing, pairing_start, pairing_more, covering_sum, level-none, level-found, LevelSearch, levels_start, levels_more, levels_found, levels_end, }
+use borrow.Author.Rules.{rules}
+use Rattle.reaching.proofs.reach.search_levels.Given as goal
+
+abbrev pub invariant-loop-i : goal.invariant-loop-i
+invariant-loop-i l = Pairing l.labels l.near_at l.far_at l.most.time.0 l.most.energy.0 l.count l.i l.j × (l.found ≡ false)
+
+abbrev pub decreases-loop-i : goal.decreases-loop-i
+decreases-loop-i l = l.count - l.i
+
+abbrev pub invariant-search : goal.invariant-search
+invariant-search l = LevelSearch l.labels l.marks l.near l.far l.levels l.most.time.0 l.most.energy.0 l.done l.near_place.at l.far_place.at × (l.found ≡ false)
+
+abbrev pub decreases-search : goal.decreases-search
+decreases-search l = l.levels - l.done

@@ -1,0 +1,31 @@
+-- Each turn notes the sum with one far entry more, and what stands behind the span makes no difference to it.
+use Prim.Native.Nat.{◌-◌}
+use native.Mathlib.Omega.{arith}
+use Rattle.query.specs.working.Sums.{sum_of}
+use Rattle.spans.proofs.TableLaws.{EntryNoted, entry-none, entry_all, entry-later, entry_more, entry-beyond}
+use Rattle.tradeoffs.proofs.NotingLaws.{level_falls}
+use borrow.Author.Rules.{rules}
+use Rattle.tradeoffs.proofs.noting.note_entry.Goals as goal
+
+pub loop-j-init : goal.loop-j-init
+loop-j-init c = entry-none _ _ _ c.requires.leasts_len
+
+pub sum_at-sum-requires : goal.sum_at-sum-requires
+sum_at-sum-requires c = record { list_fits = c.requires.list_fits; i_bound = (c.requires.i_bound.0, omega (arith, c.requires.i_bound.1, c.loop-j.invariant.in_range, c.loop-j-test.true)) }
+
+pub seconds_behind-second-requires : goal.seconds_behind-second-requires
+seconds_behind-second-requires c = entry-later c.loop-j.invariant c.loop-j-test.true c.sum_at-sum.ensures.time_is c.requires.none_before
+
+pub returns-then-second-ge-SECONDS : goal.returns-then-second-ge-SECONDS
+returns-then-second-ge-SECONDS c = entry-beyond c.loop-j.invariant c.loop-j-test.true c.sum_at-sum.ensures.time_is c.seconds_behind-second.ensures
+    (entry-later c.loop-j.invariant c.loop-j-test.true c.sum_at-sum.ensures.time_is c.requires.none_before) (level_falls c.args.near c.args.i c.requires.list_fits.1 c.requires.i_bound.1) c.if-second-ge-SECONDS.true
+
+pub lower-requires : goal.lower-requires
+lower-requires c = (c.loop-j.invariant.so_far.long, c.if-second-ge-SECONDS.false)
+
+pub loop-j-preserved : goal.loop-j-preserved
+loop-j-preserved c = entry_more c.loop-j.invariant c.loop-j-test.true c.sum_at-sum.ensures.time_is c.seconds_behind-second.ensures
+    (entry-later c.loop-j.invariant c.loop-j-test.true c.sum_at-sum.ensures.time_is c.requires.none_before) c.sum_at-sum.ensures.energy_is c.if-second-ge-SECONDS.false c.lower.ensures
+
+pub returns : goal.returns
+returns c = entry_all c.loop-j.invariant c.loop-j-test.false
