@@ -4,13 +4,13 @@ use Rattle.measured.proofs.Cases.{join_case}
 use Rattle.measured.proofs.measured_join.Goals as goal
 
 pub returns-in-Joined : goal.returns-in-Joined
-returns-in-Joined c = join_case c.count-1.given.1 c.join.ensures
+returns-in-Joined c = join_case c.in-Joined.is c.join.ensures
 
 pub returns-in-LengthsDiffer : goal.returns-in-LengthsDiffer
-returns-in-LengthsDiffer c = join_case c.enum_told-1.given.1 c.join.ensures
+returns-in-LengthsDiffer c = join_case c.in-LengthsDiffer.is c.join.ensures
 
 pub returns-in-IllFormed : goal.returns-in-IllFormed
-returns-in-IllFormed c = join_case c.enum_told-in-IllFormed-1.given.1 c.join.ensures
+returns-in-IllFormed c = join_case c.in-IllFormed.is c.join.ensures
 
 pub returns-in-NoRoom : goal.returns-in-NoRoom
-returns-in-NoRoom c = join_case c.enum_told-in-NoRoom-1.given.1 c.join.ensures
+returns-in-NoRoom c = join_case c.in-NoRoom.is c.join.ensures

@@ -4,13 +4,13 @@ use Rattle.measured.proofs.Cases.{sum_case}
 use Rattle.measured.proofs.measured_limited_join.Goals as goal
 
 pub returns-in-Found : goal.returns-in-Found
-returns-in-Found c = sum_case c.time-1.given.1 c.limited_join.ensures
+returns-in-Found c = sum_case c.in-Found.is c.limited_join.ensures
 
 pub returns-in-LengthsDiffer : goal.returns-in-LengthsDiffer
-returns-in-LengthsDiffer c = sum_case c.enum_told-1.given.1 c.limited_join.ensures
+returns-in-LengthsDiffer c = sum_case c.in-LengthsDiffer.is c.limited_join.ensures
 
 pub returns-in-IllFormed : goal.returns-in-IllFormed
-returns-in-IllFormed c = sum_case c.enum_told-in-IllFormed-1.given.1 c.limited_join.ensures
+returns-in-IllFormed c = sum_case c.in-IllFormed.is c.limited_join.ensures
 
 pub returns-in-OverLimit : goal.returns-in-OverLimit
-returns-in-OverLimit c = sum_case c.enum_told-in-OverLimit-1.given.1 c.limited_join.ensures
+returns-in-OverLimit c = sum_case c.in-OverLimit.is c.limited_join.ensures

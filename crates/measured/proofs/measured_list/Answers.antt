@@ -4,16 +4,16 @@ use Rattle.measured.proofs.Cases.{list_case}
 use Rattle.measured.proofs.measured_list.Goals as goal
 
 pub returns-in-Listed : goal.returns-in-Listed
-returns-in-Listed c = list_case c.count-1.given.1 c.write_list.ensures.list_answered
+returns-in-Listed c = list_case c.in-Listed.is c.write_list.ensures.list_answered
 
 pub returns-in-NotAccepted : goal.returns-in-NotAccepted
-returns-in-NotAccepted c = list_case c.number-1.given.1 c.write_list.ensures.list_answered
+returns-in-NotAccepted c = list_case c.in-NotAccepted.is c.write_list.ensures.list_answered
 
 pub returns-in-OffMap : goal.returns-in-OffMap
-returns-in-OffMap c = list_case c.enum_told-1.given.1 c.write_list.ensures.list_answered
+returns-in-OffMap c = list_case c.in-OffMap.is c.write_list.ensures.list_answered
 
 pub returns-in-NotConnected : goal.returns-in-NotConnected
-returns-in-NotConnected c = list_case c.enum_told-in-NotConnected-1.given.1 c.write_list.ensures.list_answered
+returns-in-NotConnected c = list_case c.in-NotConnected.is c.write_list.ensures.list_answered
 
 pub returns-in-NoRoom : goal.returns-in-NoRoom
-returns-in-NoRoom c = list_case c.enum_told-in-NoRoom-1.given.1 c.write_list.ensures.list_answered
+returns-in-NoRoom c = list_case c.in-NoRoom.is c.write_list.ensures.list_answered

@@ -23,4 +23,4 @@ pub bounds-answers-at-3 : goal.bounds-answers-at-3
 bounds-answers-at-3 c = simp length-set (omega arith)
 
 pub returns : goal.returns
-returns c = rw c.answer-1.given.1
+returns c = rw c.in-Found.is

@@ -5,7 +5,7 @@ use borrow.Author.Rules.{rules}
 use Rattle.accepted.proofs.route.answer_route.Goals as goal
 
 pub put_route-requires : goal.put_route-requires
-put_route-requires c = let pair_found = answered-zero (found-zero c.found-1.given.1 c.answer-found.ensures) in
+put_route-requires c = let pair_found = answered-zero (found-zero c.in-Found.is c.answer-found.ensures) in
     record { prepared = c.requires; s_bound = (pair_found.start_on_map, pair_found.finish_on_map); skyline = found_skyline pair_found }
 
 pub returns-in-Found : goal.returns-in-Found

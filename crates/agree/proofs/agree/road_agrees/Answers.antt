@@ -13,9 +13,9 @@ pub number_of-requires : goal.number_of-requires
 number_of-requires c = omega (arith, neighbour_index c.requires.road_input c.other_end-w.ensures.is)
 
 pub cover_stored-requires : goal.cover_stored-requires
-cover_stored-requires c = let rest = neighbour_rest c.requires.road_input c.other_end-w.ensures.is c.if-w-u.false c.number_of_lem.ensures in
+cover_stored-requires c = let rest = neighbour_rest c.requires.road_input c.other_end-w.ensures.is c.if-w-u.false c.number_of.ensures in
     record { list_read = c.requires.list_read; list_fits = rest.fits; arc_time_bound = (omega arith, omega arith); marks_len = c.requires.marks_len }
 
 pub returns : goal.returns
-returns c = let rest = neighbour_rest c.requires.road_input c.other_end-w.ensures.is c.if-w-u.false c.number_of_lem.ensures in
+returns c = let rest = neighbour_rest c.requires.road_input c.other_end-w.ensures.is c.if-w-u.false c.number_of.ensures in
     road-tested c.requires.road_input c.other_end-w.ensures.is c.road_time-time.ensures.is c.road_energy-energy.ensures.is rest.leaves c.cover_stored.ensures

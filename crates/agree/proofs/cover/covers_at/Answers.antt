@@ -14,14 +14,14 @@ time_at-own_time-requires c = time-inside c.requires.list_read.fits (omega (arit
 
 pub returns-then-below : goal.returns-then-below
 returns-then-below c = let slower = sym c.below.ensures ∙ c.if-below.true in
-    compared_slower c.requires.list_read _ c.time_at_lem.ensures (omega (arith, ltb-true))
+    compared_slower c.requires.list_read _ c.time_at-own_time.ensures (omega (arith, ltb-true))
 
 pub energy_at-own_energy-requires : goal.energy_at-own_energy-requires
 energy_at-own_energy-requires c = energy-inside c.requires.list_read.fits (omega (arith, c.requires.list_read.counted, c.if-i-own_count.false))
 
 pub returns-then-below-2 : goal.returns-then-below-2
-returns-then-below-2 c = compared_dearer c.requires.list_read _ c.energy_at_lem.ensures (ltb-true _ _ (sym c.below-2.ensures ∙ c.if-below-2.true))
+returns-then-below-2 c = compared_dearer c.requires.list_read _ c.energy_at-own_energy.ensures (ltb-true _ _ (sym c.below-2.ensures ∙ c.if-below-2.true))
 
 pub returns : goal.returns
-returns c = compared_covers c.requires.list_read _ c.requires.marks_len c.if-i-own_count.false c.time_at_lem.ensures (ltb-false _ _ (sym c.below.ensures ∙ c.if-below.false))
-    c.energy_at_lem.ensures (ltb-false _ _ (sym c.below-2.ensures ∙ c.if-below-2.false)) c.equals.ensures c.equals-2.ensures c.mark_after.ensures
+returns c = compared_covers c.requires.list_read _ c.requires.marks_len c.if-i-own_count.false c.time_at-own_time.ensures (ltb-false _ _ (sym c.below.ensures ∙ c.if-below.false))
+    c.energy_at-own_energy.ensures (ltb-false _ _ (sym c.below-2.ensures ∙ c.if-below-2.false)) c.equals.ensures c.equals-2.ensures c.mark_after.ensures

@@ -1,4 +1,5 @@
 -- Before its turn the junctions below u stand at their lists for u; after it, behind them.
+use Rattle.std.proofs.lemmas.Bool.{not_from_false, not_from_true}
 use mathlib.Core.Bool.{false≢true}
 use mathlib.Core.Path.{◌≡◌, refl}
 use mathlib.Core.List.{List}
@@ -69,7 +70,7 @@ lists_agree-requires c = (
     )
 
 pub returns-then-not-lists_agree : goal.returns-then-not-lists_agree
-returns-then-not-lists_agree c = let failed = not-true _ c.if-not-lists_agree.true in
+returns-then-not-lists_agree c = let failed = not-true _ (not_from_false _ c.if-not-lists_agree.true) in
     record { decides = rw (← c.entry_at-u.ensures, ← failed) c.lists_agree.ensures.decides; swept_2 = λ e. absurd (false≢true e) }
 
 pub move_on-requires : goal.move_on-requires
@@ -82,7 +83,7 @@ move_on-requires c = (
     )
 
 pub returns : goal.returns
-returns c = let passed = not-false _ c.if-not-lists_agree.false in record { decides = rw (← c.entry_at-u.ensures, ← passed) c.lists_agree.ensures.decides; swept_2 = λ e. (
+returns c = let passed = not-false _ (not_from_true _ c.if-not-lists_agree.false) in record { decides = rw (← c.entry_at-u.ensures, ← passed) c.lists_agree.ensures.decides; swept_2 = λ e. (
         swept_moved c.requires.files_fit.0.formed c.requires.files_fit.1.numbered c.requires.i_bound c.entry_at-u.ensures c.entry_at.ensures c.requires.swept c.requires.files_fit.1.starts_filled c.note-above.ensures c.move_on.ensures,
         c.lists_agree.ensures.unmarked_2 passed,
       ), }

@@ -16,12 +16,12 @@ number_of-here-requires c = omega (
     )
 
 pub next-place-requires : goal.next-place-requires
-next-place-requires c = record { at_in_bounds = place_inside c.requires.formed c.requires.block_of c.requires.places_for c.loop.invariant.1 c.loop-test.true c.entry_at.ensures c.number_of_lem.ensures; labels_len_bound = c.requires.formed.few_bytes, }
+next-place-requires c = record { at_in_bounds = place_inside c.requires.formed c.requires.block_of c.requires.places_for c.loop.invariant.1 c.loop-test.true c.entry_at.ensures c.number_of-here.ensures; labels_len_bound = c.requires.formed.few_bytes, }
 
 pub overflow_cast-places : goal.overflow_cast-places
 overflow_cast-places c = omega (
       arith,
-      next-inside c.requires.formed c.requires.block_of c.requires.places_for c.loop.invariant.1 c.loop-test.true c.entry_at.ensures c.number_of_lem.ensures c.next-place.ensures,
+      next-inside c.requires.formed c.requires.block_of c.requires.places_for c.loop.invariant.1 c.loop-test.true c.entry_at.ensures c.number_of-here.ensures c.next-place.ensures,
       c.requires.formed.few_bytes,
     )
 
@@ -42,7 +42,7 @@ bounds-places-v c = omega (
 pub loop-spot-preserved : goal.loop-spot-preserved
 loop-spot-preserved c = (
       omega arith,
-      moving_more c.requires.formed c.requires.block_of c.requires.places_for c.loop-spot.invariant.1 c.loop-spot-test.true c.entry_at-v.ensures c.number_of_lem.ensures c.next-place.ensures,
+      moving_more c.requires.formed c.requires.block_of c.requires.places_for c.loop-spot.invariant.1 c.loop-spot-test.true c.entry_at-v.ensures c.number_of-here.ensures c.next-place.ensures,
     )
 
 pub returns : goal.returns

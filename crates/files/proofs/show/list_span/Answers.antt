@@ -1,4 +1,5 @@
 -- Where v and u are junctions and u is a proper ancestor of v, the list that is found is the one to show, and nowhere else.
+use Rattle.std.proofs.lemmas.Bool.{not_from_true}
 use native.Mathlib.Omega.{arith}
 use Rattle.files.proofs.ShowLaws.{above-deeper, found-stands, span_v_off, span_u_off, span_not_above, span_list}
 use borrow.Author.Rules.{rules}
@@ -17,7 +18,7 @@ pub returns-then-not-is_above : goal.returns-then-not-is_above
 returns-then-not-is_above c = search (span_not_above)
 
 pub find_list-place-requires : goal.find_list-place-requires
-find_list-place-requires c = let deeper = above-deeper c.requires.formed.parents c.is_above.ensures c.if-not-is_above.false in
+find_list-place-requires c = let deeper = above-deeper c.requires.formed.parents c.is_above.ensures (not_from_true _ c.if-not-is_above.false) in
     record { formed = c.requires.formed; depths_filled = c.requires.depths_filled; starts_filled = c.requires.starts_filled; v_bound = (omega arith, omega arith); u_bound = deeper }
 
 pub next-behind-requires : goal.next-behind-requires

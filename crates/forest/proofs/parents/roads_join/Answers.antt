@@ -1,4 +1,5 @@
 -- The loop has passed every road below k, and one that does not join fails all.
+use Rattle.std.proofs.lemmas.Bool.{not_from_false, not_from_true}
 use Prim.Native.Nat.{◌-◌}
 use native.Mathlib.Omega.{arith}
 use Rattle.network.specs.NetworkFile.{roads_of}
@@ -18,10 +19,10 @@ pub road_joins-requires : goal.road_joins-requires
 road_joins-requires c = record { network_fits = c.requires.network_fits; net_value = c.requires.net_value; parents_fit = c.requires.parents_fit; depths_filled = c.requires.depths_filled; feet_right = c.fill_feet.ensures; k_bound = omega arith }
 
 pub returns-then-not-road_joins : goal.returns-then-not-road_joins
-returns-then-not-road_joins c = passing_fails c.loop-k.invariant (omega arith) c.road_joins.ensures c.if-not-road_joins.true
+returns-then-not-road_joins c = passing_fails c.loop-k.invariant (omega arith) c.road_joins.ensures (not_from_false _ c.if-not-road_joins.true)
 
 pub loop-k-preserved : goal.loop-k-preserved
-loop-k-preserved c = passing_more c.loop-k.invariant (omega arith) c.road_joins.ensures c.if-not-road_joins.false
+loop-k-preserved c = passing_more c.loop-k.invariant (omega arith) c.road_joins.ensures (not_from_true _ c.if-not-road_joins.false)
 
 pub returns : goal.returns
 returns c = passing_end c.loop-k.invariant (omega arith)

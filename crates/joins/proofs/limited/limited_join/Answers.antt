@@ -17,12 +17,12 @@ best_sum-places-requires c = let z = passed-lists _ _ _ _ (both_pass _ _ _ _ c.j
     record { list = z.first; list_2 = z.second }
 
 pub returns-in_default : goal.returns-in_default
-returns-in_default c = answer_over _ _ _ _ (both_pass _ _ _ _ c.join_number-number.ensures c.if-number-eq41.false c.if-number-eq42.false) c.enum_told-1.given.1 c.best_sum-places.ensures
+returns-in_default c = answer_over _ _ _ _ (both_pass _ _ _ _ c.join_number-number.ensures c.if-number-eq41.false c.if-number-eq42.false) c.in_default.is c.best_sum-places.ensures
 
 pub sum_at-sum-requires : goal.sum_at-sum-requires
 sum_at-sum-requires c = let z = passed-lists _ _ _ _ (both_pass _ _ _ _ c.join_number-number.ensures c.if-number-eq41.false c.if-number-eq42.false) in
-    let best = places_at _ _ _ _ c.places-1.given.1 c.best_sum-places.ensures in
+    let best = places_at _ _ _ _ c.in-At.is c.best_sum-places.ensures in
     record { list = z.first; list_2 = z.second; i_in_bounds = best.first_place; j_in_bounds = best.second_place }
 
 pub returns : goal.returns
-returns c = answer_found _ _ _ _ (both_pass _ _ _ _ c.join_number-number.ensures c.if-number-eq41.false c.if-number-eq42.false) (places_at _ _ _ _ c.places-1.given.1 c.best_sum-places.ensures) c.sum_at-sum.ensures.energy_value
+returns c = answer_found _ _ _ _ (both_pass _ _ _ _ c.join_number-number.ensures c.if-number-eq41.false c.if-number-eq42.false) (places_at _ _ _ _ c.in-At.is c.best_sum-places.ensures) c.sum_at-sum.ensures.energy_value

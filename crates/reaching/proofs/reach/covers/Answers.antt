@@ -25,4 +25,4 @@ plus-sum-requires c = omega (
     )
 
 pub returns : goal.returns
-returns c = covers-decides c.if-j-eq0.false c.time_at_lem.ensures c.time_at-second.ensures c.plus-sum.ensures c.at_most.ensures
+returns c = covers-decides c.if-j-eq0.false c.time_at-first.ensures c.time_at-second.ensures c.plus-sum.ensures c.at_most.ensures

@@ -16,4 +16,4 @@ time_at-last-requires c = omega (
     )
 
 pub returns : goal.returns
-returns c = list-decides c.requires c.fitting-j.ensures c.if-j-eq0.false c.time_at_lem.ensures c.at_most.ensures
+returns c = list-decides c.requires c.fitting-j.ensures c.if-j-eq0.false c.time_at-last.ensures c.at_most.ensures

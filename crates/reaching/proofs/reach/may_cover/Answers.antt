@@ -28,7 +28,7 @@ plus-least-requires c = omega (
     )
 
 pub returns-then-below : goal.returns-then-below
-returns-then-below c = λ q. least-over c.requires.0 c.requires.1 c.energy_at_lem.ensures c.energy_at-2.ensures c.plus-least.ensures c.below.ensures c.if-below.true
+returns-then-below c = λ q. least-over c.requires.0 c.requires.1 c.energy_at.ensures c.energy_at-2.ensures c.plus-least.ensures c.below.ensures c.if-below.true
 
 pub time_at-requires : goal.time_at-requires
 time_at-requires c = omega (arith, entry-inside c.requires.0 {j = c.count_at-near_count.result - 1} (omega (arith, c.count_at-near_count.ensures, c.if-near_count-eq0.false)))
@@ -46,4 +46,4 @@ plus-quickest-requires c = omega (
     )
 
 pub returns : goal.returns
-returns c = λ q. quickest_late c.requires.0 c.requires.1 c.count_at-near_count.ensures c.count_at-far_count.ensures c.time_at_lem.ensures c.time_at-2.ensures c.plus-quickest.ensures c.at_most.ensures q
+returns c = λ q. quickest_late c.requires.0 c.requires.1 c.count_at-near_count.ensures c.count_at-far_count.ensures c.time_at.ensures c.time_at-2.ensures c.plus-quickest.ensures c.at_most.ensures q

@@ -11,10 +11,10 @@ pub between-lists-requires : goal.between-lists-requires
 between-lists-requires c = record { formed = (c.requires.prepared.beside.formed, c.requires.prepared.depths_filled, c.requires.prepared.starts_filled); numbered = c.requires.prepared.numbered; x_bound = (on_labels c.requires.prepared c.requires.from_bound.0, on_labels c.requires.prepared c.requires.from_bound.1, c.if-x-y.false) }
 
 pub list_reaches-requires : goal.list_reaches-requires
-list_reaches-requires c = list-between-fits c.requires.prepared.beside.formed (leads-list _ _ _ c.lists-1.given.1 c.between-lists.ensures)
+list_reaches-requires c = list-between-fits c.requires.prepared.beside.formed (leads-list _ _ _ c.in-List.is c.between-lists.ensures)
 
 pub hold_hoplinks-requires : goal.hold_hoplinks-requires
-hold_hoplinks-requires c = let two = leads-lists _ _ _ c.lists-in-Lists-1.given.1 c.between-lists.ensures in
+hold_hoplinks-requires c = let two = leads-lists _ _ _ c.in-Lists.is c.between-lists.ensures in
     record { files_fit = (c.requires.prepared.beside, c.requires.prepared.depths_filled, two.meets.on_map); held = c.requires.held }
 
 pub search_levels-requires : goal.search_levels-requires
@@ -22,10 +22,10 @@ search_levels-requires c = let two = leads-lists _ _ _ c.lists2.given.1 c.betwee
     record { row_fits = row_fits c.requires.prepared two; levels_bound = levels_marked c.requires.prepared.beside.formed.parents two }
 
 pub returns-in-Nothing : goal.returns-in-Nothing
-returns-in-Nothing c = record { decides = reach-apart c.requires.prepared (leads-nowhere _ _ _ c.enum_told-1.given.1 c.between-lists.ensures); held_2 = c.requires.held }
+returns-in-Nothing c = record { decides = reach-apart c.requires.prepared (leads-nowhere _ _ _ c.in-Nothing.is c.between-lists.ensures); held_2 = c.requires.held }
 
 pub returns-in-List : goal.returns-in-List
-returns-in-List c = record { decides = reach-list c.requires.prepared (leads-list _ _ _ c.lists-1.given.1 c.between-lists.ensures) c.list_reaches.ensures; held_2 = c.requires.held }
+returns-in-List c = record { decides = reach-list c.requires.prepared (leads-list _ _ _ c.in-List.is c.between-lists.ensures) c.list_reaches.ensures; held_2 = c.requires.held }
 
 pub returns-in-Lists : goal.returns-in-Lists
 returns-in-Lists c = let two = leads-lists _ _ _ c.lists2.given.1 c.between.ensures in

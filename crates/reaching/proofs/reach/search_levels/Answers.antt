@@ -39,7 +39,7 @@ covers-requires c = record { list_fits = (along-near c.search.invariant.0.along 
 pub loop-i-preserved : goal.loop-i-preserved
 loop-i-preserved c = (
       pairing_more (along-near c.search.invariant.0.along c.requires.row_fits c.search-test.true) (along_far c.search.invariant.0.along c.requires.row_fits c.search-test.true) c.loop-i.invariant.0 c.loop-i-test.true
-          c.entries_tried-count.ensures.few c.energy_at_lem.ensures c.fitting_from-j.ensures (c.covers.ensures.fails c.if-covers.false),
+          c.entries_tried-count.ensures.few c.energy_at.ensures c.fitting_from-j.ensures (c.covers.ensures.fails c.if-covers.false),
       c.loop-i.invariant.1,
     )
 
@@ -64,4 +64,4 @@ pub returns-then-covers : goal.returns-then-covers
 returns-then-covers c = levels_found c.search.invariant.0 refl c.search-test.true
     ((level-found (c.entries_tried-count.ensures.marked (omega (arith, c.loop-i-test.true)))
     (covering_sum (along-near c.search.invariant.0.along c.requires.row_fits c.search-test.true) (along_far c.search.invariant.0.along c.requires.row_fits c.search-test.true) c.loop-i.invariant.0 c.loop-i-test.true
-    c.entries_tried-count.ensures.few c.energy_at_lem.ensures c.fitting_from-j.ensures (c.covers.ensures.holds c.if-covers.true))).holds refl)
+    c.entries_tried-count.ensures.few c.energy_at.ensures c.fitting_from-j.ensures (c.covers.ensures.holds c.if-covers.true))).holds refl)

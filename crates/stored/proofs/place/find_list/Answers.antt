@@ -21,7 +21,7 @@ overflow_sub-between-2 c = omega (arith, deeper c)
 pub skip-requires : goal.skip-requires
 skip-requires c = record { k_in_bounds = way_inside c.requires.formed
           (way_read c.requires.depths_filled c.requires.starts_filled c.requires.v_bound.0 c.requires.v_bound.1 c.requires.u_bound
-          c.number_of_lem.ensures c.number_of-2.ensures c.entry_at-start.ensures); labels_len_bound = c.requires.formed.few_bytes, }
+          c.number_of.ensures c.number_of-2.ensures c.entry_at-start.ensures); labels_len_bound = c.requires.formed.few_bytes, }
 
 pub returns : goal.returns
 returns c = search (way_found, way_read, rules)

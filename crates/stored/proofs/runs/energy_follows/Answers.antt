@@ -1,4 +1,5 @@
 -- Both tests hold where the answer is true.
+use Rattle.std.proofs.lemmas.Bool.{not_from_true}
 use mathlib.Core.Bool.{false≢true}
 use Rattle.stored.proofs.ShortLists.{energy-follows}
 use borrow.Author.Rules.{rules}
@@ -8,4 +9,4 @@ pub returns-then-not-at_most : goal.returns-then-not-at_most
 returns-then-not-at_most c = λ e. absurd (false≢true e)
 
 pub returns : goal.returns
-returns c = energy-follows c.at_most.ensures c.if-not-at_most.false c.below.ensures
+returns c = energy-follows c.at_most.ensures (not_from_true _ c.if-not-at_most.false) c.below.ensures

@@ -5,5 +5,5 @@ use borrow.Author.Rules.{rules}
 use Rattle.stored.proofs.runs.second_entry.Goals as goal
 
 pub returns : goal.returns
-returns c = second_flagged _ _ (omega arith) c.time_at.ensures c.time_at-time.ensures c.fitting_time.ensures
-    c.energy_at.ensures c.energy_at_lem.ensures c.energy_follows.ensures c.both.ensures
+returns c = second_flagged _ _ (omega arith) c.time_at.ensures c.time_at-time.ensures c.time_fits.ensures
+    c.energy_at.ensures c.energy_at-energy.ensures c.energy_follows.ensures c.both.ensures

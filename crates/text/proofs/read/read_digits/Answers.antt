@@ -18,10 +18,10 @@ returns-in_default c = digits_stop c.loop-next.invariant.2 c.loop-next.invariant
     (λ below. no_digit c.kind_of-found.ensures (λ value e. miss (1 ∷ (2 ∷ (3 ∷ []))) 0 tt (rw e at c.in_default.keys2)))
 
 pub longer-value-requires : goal.longer-value-requires
-longer-value-requires c = omega (arith, digit_value c.kind_of-found.ensures c.found-1.given.1, (digit_is c.kind_of-found.ensures c.found-1.given.1).to_nine)
+longer-value-requires c = omega (arith, digit_value c.kind_of-found.ensures c.in-Digit.is, (digit_is c.kind_of-found.ensures c.in-Digit.is).to_nine)
 
 pub loop-next-preserved : goal.loop-next-preserved
-loop-next-preserved c = (omega arith, c.loop-next.invariant.1, one_digit_more c.loop-next.invariant.2 (omega arith) (digit_is c.kind_of-found.ensures c.found-1.given.1) (digit_value c.kind_of-found.ensures c.found-1.given.1) c.longer-value.ensures)
+loop-next-preserved c = (omega arith, c.loop-next.invariant.1, one_digit_more c.loop-next.invariant.2 (omega arith) (digit_is c.kind_of-found.ensures c.in-Digit.is) (digit_value c.kind_of-found.ensures c.in-Digit.is) c.longer-value.ensures)
 
 pub returns : goal.returns
 returns c = digits_stop c.loop-next.invariant.2 c.loop-next.invariant.0 (λ below. absurd (omega arith))

@@ -18,10 +18,10 @@ pub overflow_add-count : goal.overflow_add-count
 overflow_add-count c = omega (arith, c.loop-bound.invariant.both_small, c.loop-bound-test.true)
 
 pub loop-bound-smaller : goal.loop-bound-smaller
-loop-bound-smaller c = count_less c.loop-bound.invariant c.loop-bound-test.true c.next_below-next.ensures c.answer-1.given.1
+loop-bound-smaller c = count_less c.loop-bound.invariant c.loop-bound-test.true c.next_below-next.ensures c.in-Found.is
 
 pub loop-bound-preserved : goal.loop-bound-preserved
-loop-bound-preserved c = count-more c.loop-bound.invariant c.loop-bound-test.true c.next_below-next.ensures c.answer-1.given.1
+loop-bound-preserved c = count-more c.loop-bound.invariant c.loop-bound-test.true c.next_below-next.ensures c.in-Found.is
 
 pub returns : goal.returns
 returns c = counted_end c.loop-bound.invariant c.loop-bound-test.false

@@ -22,7 +22,7 @@ pub offset_bounds-energies-place : goal.offset_bounds-energies-place
 offset_bounds-energies-place c = omega (arith, c.well_formed, c.loop-place.invariant)
 
 pub loop-place-preserved : goal.loop-place-preserved
-loop-place-preserved c = fill_more c.loop-place.invariant c.loop-place-test.true c.next_below-next.ensures c.answer-1.given.1
+loop-place-preserved c = fill_more c.loop-place.invariant c.loop-place-test.true c.next_below-next.ensures c.in-Found.is
 
 pub returns : goal.returns
 returns c = fill_end c.loop-place.invariant c.loop-place-test.false

@@ -6,18 +6,18 @@ use borrow.Author.Rules.{rules}
 use Rattle.tradeoffs.proofs.list.list_count.Goals as goal
 
 pub count-requires : goal.count-requires
-count-requires c = let one = some_more (told_one _ c.lists-1.given.1) c.requires in
+count-requires c = let one = some_more (told_one _ c.in-List.is) c.requires in
     count-stands one.right.fits
 
 pub count_joined-requires : goal.count_joined-requires
-count_joined-requires c = record { some_list = some_more (told_two _ c.lists-in-Lists-1.given.1) c.requires; leasts_len = refl }
+count_joined-requires c = record { some_list = some_more (told_two _ c.in-Lists.is) c.requires; leasts_len = refl }
 
 pub returns-in-Nothing : goal.returns-in-Nothing
-returns-in-Nothing c = counted-more (none_told _ c.enum_told-1.given.1) none-counted
+returns-in-Nothing c = counted-more (none_told _ c.in-Nothing.is) none-counted
 
 pub returns-in-List : goal.returns-in-List
-returns-in-List c = counted-more (one_told _ c.lists-1.given.1)
-    (stored-counted (some_more (told_one _ c.lists-1.given.1) c.requires) c.count.ensures.is)
+returns-in-List c = counted-more (one_told _ c.in-List.is)
+    (stored-counted (some_more (told_one _ c.in-List.is) c.requires) c.count.ensures.is)
 
 pub returns-in-Lists : goal.returns-in-Lists
-returns-in-Lists c = counted-more (two_told _ c.lists-in-Lists-1.given.1) c.count_joined.ensures
+returns-in-Lists c = counted-more (two_told _ c.in-Lists.is) c.count_joined.ensures

@@ -6,17 +6,17 @@ use borrow.Author.Rules.{rules}
 use Rattle.tradeoffs.proofs.list.list_fill.Goals as goal
 
 pub load-requires : goal.load-requires
-load-requires c = let one = counted-more (told_one _ c.lists-1.given.1) c.requires.counted in
+load-requires c = let one = counted-more (told_one _ c.in-List.is) c.requires.counted in
     record { at_in_bounds = one.right.fits.inside; at_in_bounds_2 = omega (arith, stored-room one, c.requires.count_in_bounds.0); at_in_bounds_3 = omega (arith, stored-room one, c.requires.count_in_bounds.1) }
 
 pub fill_joined-requires : goal.fill_joined-requires
-fill_joined-requires c = record { counted = counted-more (told_two _ c.lists-in-Lists-1.given.1) c.requires.counted; leasts_len = refl; count_in_bounds = c.requires.count_in_bounds }
+fill_joined-requires c = record { counted = counted-more (told_two _ c.in-Lists.is) c.requires.counted; leasts_len = refl; count_in_bounds = c.requires.count_in_bounds }
 
 pub returns-in-Nothing : goal.returns-in-Nothing
-returns-in-Nothing c = written-more (none_told _ c.enum_told-1.given.1) (none_written (counted-more (told_none _ c.enum_told-1.given.1) c.requires.counted))
+returns-in-Nothing c = written-more (none_told _ c.in-Nothing.is) (none_written (counted-more (told_none _ c.in-Nothing.is) c.requires.counted))
 
 pub returns-in-List : goal.returns-in-List
-returns-in-List c = written-more (one_told _ c.lists-1.given.1) (stored-written (counted-more (told_one _ c.lists-1.given.1) c.requires.counted) c.load.ensures)
+returns-in-List c = written-more (one_told _ c.in-List.is) (stored-written (counted-more (told_one _ c.in-List.is) c.requires.counted) c.load.ensures)
 
 pub returns-in-Lists : goal.returns-in-Lists
-returns-in-Lists c = written-more (two_told _ c.lists-in-Lists-1.given.1) c.fill_joined.ensures
+returns-in-Lists c = written-more (two_told _ c.in-Lists.is) c.fill_joined.ensures

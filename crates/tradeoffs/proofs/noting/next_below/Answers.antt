@@ -12,7 +12,7 @@ pub returns-in_default : goal.returns-in_default
 returns-in_default c = next-none (refused c.from_lists-answer.result (λ w. found_key (rw w.is at c.in_default.keys2))) c.from_lists-answer.ensures
 
 pub span_from-after-requires : goal.span_from-after-requires
-span_from-after-requires c = (c.requires.row_fits, (c.requires.bound_nonzero, span_asked c.requires.bound_nonzero c.answer-1.given.1 c.from_lists-answer.ensures c.requires.row_fits c.requires.waiting))
+span_from-after-requires c = (c.requires.row_fits, (c.requires.bound_nonzero, span_asked c.requires.bound_nonzero c.in-Found.is c.from_lists-answer.ensures c.requires.row_fits c.requires.waiting))
 
 pub returns : goal.returns
-returns c = next-found c.requires.bound_nonzero c.answer-1.given.1 c.from_lists-answer.ensures c.span_from-after.ensures
+returns c = next-found c.requires.bound_nonzero c.in-Found.is c.from_lists-answer.ensures c.span_from-after.ensures

@@ -12,7 +12,7 @@ pub next_below-next-requires : goal.next_below-next-requires
 next_below-next-requires c = record { list = c.loop-place.invariant.first; list_2 = c.loop-place.invariant.second; bound_nonzero = fill_bound c.loop-place.invariant c.loop-place-test.true; waiting = c.loop-place.invariant.waits }
 
 pub returns-in_default : goal.returns-in_default
-returns-in_default c = absurd (fill_never c.loop-place.invariant c.loop-place-test.true c.next_below-next.ensures c.enum_told-1.given.1)
+returns-in_default c = absurd (fill_never c.loop-place.invariant c.loop-place-test.true c.next_below-next.ensures c.in_default.is)
 
 pub offset_bounds-out_times-place : goal.offset_bounds-out_times-place
 offset_bounds-out_times-place c = omega (arith, c.well_formed, c.loop-place.invariant)
@@ -21,7 +21,7 @@ pub offset_bounds-out_energies-place : goal.offset_bounds-out_energies-place
 offset_bounds-out_energies-place c = omega (arith, c.well_formed, c.loop-place.invariant)
 
 pub loop-place-preserved : goal.loop-place-preserved
-loop-place-preserved c = fill_more c.loop-place.invariant c.loop-place-test.true c.next_below-next.ensures c.found-1.given.1
+loop-place-preserved c = fill_more c.loop-place.invariant c.loop-place-test.true c.next_below-next.ensures c.in-Found.is
 
 pub returns : goal.returns
 returns c = record { out_times_after = fill_times c.loop-place.invariant c.loop-place-test.false; out_energies_after = fill_energies c.loop-place.invariant c.loop-place-test.false }
