@@ -1,9 +1,13 @@
 // Answers the query lines of standard input on net.trn and labels.tlb.
 #![tactic(auto)]
 
-use libc::{STDIN_FILENO, STDOUT_FILENO};
 use replies::program::run;
 
-fn main() {
-    run(b"net.trn", b"labels.tlb", STDIN_FILENO, STDOUT_FILENO);
+// The descriptors of standard input and standard output.
+const STANDARD_INPUT: i32 = 0;
+
+const STANDARD_OUTPUT: i32 = 1;
+
+fn main(rt: HostRuntime) {
+    run(&rt, b"net.trn", b"labels.tlb", STANDARD_INPUT, STANDARD_OUTPUT);
 }

@@ -4,19 +4,23 @@
 ghost use Rattle.io.specs.Counts.{IsPrefixLen};
 
 use labels::{ListAnswer, RouteAnswer};
-use libc::STDOUT_FILENO;
+use reading::read_full;
+use std::fs;
+use std::rt::Files;
+
+const STANDARD_OUTPUT: i32 = 1;
 
 // How many bytes of the file stand at the start of the buffer; none if it cannot be read.
-fn read_file(path: &[u8; 5], buffer: &mut [u8]) -> usize
+fn read_file<R: Files>(files: &R, path: &[u8; 5], buffer: &mut [u8]) -> usize
     ensures { IsPrefixLen result buffer.new }
 {
-    let file = os::open_read(path);
-    if file < 0 {
+    let Ok(name) = str::from_utf8(path) else {
         return 0;
-    }
-    let count = io::read_full(file, buffer);
-    libc::close(file);
-    count
+    };
+    let Ok(mut file) = fs::open(files, name) else {
+        return 0;
+    };
+    read_full(&mut file, buffer)
 }
 
 fn wide(x: u32) -> u64 {
@@ -24,8 +28,8 @@ fn wide(x: u32) -> u64 {
 }
 
 fn print(x: u32) {
-    io::write_all(STDOUT_FILENO, b" ");
-    io::print_decimal(STDOUT_FILENO, wide(x));
+    io::write_all(STANDARD_OUTPUT, b" ");
+    io::print_decimal(STANDARD_OUTPUT, wide(x));
 }
 
 fn print_all(places: &[u32; 6]) {
@@ -34,7 +38,7 @@ fn print_all(places: &[u32; 6]) {
         print(places[i]);
         i += 1;
     }
-    io::write_all(STDOUT_FILENO, b"\n");
+    io::write_all(STANDARD_OUTPUT, b"\n");
 }
 
 fn print_route(answer: RouteAnswer) {
@@ -72,14 +76,14 @@ fn route(net: &[u8], labels: &[u8], s: u32, t: u32, limit: u32, room: usize) {
     if room > 6 {
         return;
     }
-    io::write_all(STDOUT_FILENO, b"route");
+    io::write_all(STANDARD_OUTPUT, b"route");
     print(s);
     print(t);
     print(limit);
-    io::write_all(STDOUT_FILENO, b":");
+    io::write_all(STANDARD_OUTPUT, b":");
     let answer = labels::route(net, labels, s, t, limit, &mut places[0..room]);
     print_route(answer);
-    io::write_all(STDOUT_FILENO, b" |");
+    io::write_all(STANDARD_OUTPUT, b" |");
     print_all(&places);
 }
 
@@ -90,15 +94,15 @@ fn list(net: &[u8], labels: &[u8], s: u32, t: u32, room: usize) {
     if room > 6 {
         return;
     }
-    io::write_all(STDOUT_FILENO, b"list");
+    io::write_all(STANDARD_OUTPUT, b"list");
     print(s);
     print(t);
-    io::write_all(STDOUT_FILENO, b":");
+    io::write_all(STANDARD_OUTPUT, b":");
     let answer = labels::list(net, labels, s, t, &mut times[0..room], &mut energies);
     print_list(answer);
-    io::write_all(STDOUT_FILENO, b" |");
+    io::write_all(STANDARD_OUTPUT, b" |");
     print_all(&times);
-    io::write_all(STDOUT_FILENO, b"  |");
+    io::write_all(STANDARD_OUTPUT, b"  |");
     print_all(&energies);
 }
 
@@ -133,9 +137,9 @@ fn edges(net: &[u8], labels: &[u8]) {
 fn batch(net: &[u8], labels: &[u8], queries: &[u32; 6]) {
     let mut answers: [u32; 6] = [9999; 6];
     let number = labels::batch(net, labels, queries, &mut answers);
-    io::write_all(STDOUT_FILENO, b"batch:");
+    io::write_all(STANDARD_OUTPUT, b"batch:");
     print(number);
-    io::write_all(STDOUT_FILENO, b" |");
+    io::write_all(STANDARD_OUTPUT, b" |");
     print_all(&answers);
 }
 
@@ -146,30 +150,30 @@ fn batches(net: &[u8], labels: &[u8]) {
     batch(net, labels, &[0, 2, 5, 0, 2, 5]);
 }
 
-fn run(name: u8) {
+fn run<R: Files>(files: &R, name: u8) {
     let mut net = io::large_buffer();
-    let net_length = read_file(&[name, b'.', b'n', b'e', b't'], &mut net);
+    let net_length = read_file(files, &[name, b'.', b'n', b'e', b't'], &mut net);
     let mut label_bytes = io::large_buffer();
-    let label_length = read_file(&[name, b'.', b'l', b'a', b'b'], &mut label_bytes);
+    let label_length = read_file(files, &[name, b'.', b'l', b'a', b'b'], &mut label_bytes);
     let network = &net[0..net_length];
     let labels = &label_bytes[0..label_length];
-    io::write_all(STDOUT_FILENO, b"network ");
-    io::write_all(STDOUT_FILENO, &[name]);
-    io::write_all(STDOUT_FILENO, b", check:");
+    io::write_all(STANDARD_OUTPUT, b"network ");
+    io::write_all(STANDARD_OUTPUT, &[name]);
+    io::write_all(STANDARD_OUTPUT, b", check:");
     print(labels::check(network, labels));
-    io::write_all(STDOUT_FILENO, b"\n");
+    io::write_all(STANDARD_OUTPUT, b"\n");
     limits(network, labels);
     edges(network, labels);
     batches(network, labels);
 }
 
 // Network A, the square, two parts, one junction, two junctions without roads, and A without (6,3), E made 13 and left 14.
-fn main() {
-    run(b'a');
-    run(b's');
-    run(b'p');
-    run(b'o');
-    run(b't');
-    run(b'd');
-    run(b'e');
+fn main(rt: HostRuntime) {
+    run(&rt, b'a');
+    run(&rt, b's');
+    run(&rt, b'p');
+    run(&rt, b'o');
+    run(&rt, b't');
+    run(&rt, b'd');
+    run(&rt, b'e');
 }

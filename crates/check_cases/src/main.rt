@@ -3,7 +3,11 @@
 
 ghost use Rattle.io.specs.Counts.{IsPrefixLen};
 
-use libc::STDOUT_FILENO;
+use reading::read_full;
+use std::fs;
+use std::rt::Files;
+
+const STANDARD_OUTPUT: i32 = 1;
 
 const CASES: usize = 72;
 
@@ -17,40 +21,40 @@ fn path(k: usize, a: u8, b: u8, c: u8) -> [u8; 7] {
 }
 
 // How many bytes of the file stand at the start of the buffer; none if it cannot be read.
-fn read_file(path: &[u8; 7], buffer: &mut [u8]) -> usize
+fn read_file<R: Files>(files: &R, path: &[u8; 7], buffer: &mut [u8]) -> usize
     ensures { IsPrefixLen result buffer.new }
 {
-    let file = os::open_read(path);
-    if file < 0 {
+    let Ok(name) = str::from_utf8(path) else {
         return 0;
-    }
-    let count = io::read_full(file, buffer);
-    libc::close(file);
-    count
+    };
+    let Ok(mut file) = fs::open(files, name) else {
+        return 0;
+    };
+    read_full(&mut file, buffer)
 }
 
 fn wide(x: u32) -> u64 {
     x as u64
 }
 
-fn run_case(k: usize) {
+fn run_case<R: Files>(files: &R, k: usize) {
     let mut note = io::buffer();
-    let note_length = read_file(&path(k, b't', b'x', b't'), &mut note);
-    io::write_all(STDOUT_FILENO, &note[0..note_length]);
-    io::write_all(STDOUT_FILENO, b": ");
+    let note_length = read_file(files, &path(k, b't', b'x', b't'), &mut note);
+    io::write_all(STANDARD_OUTPUT, &note[0..note_length]);
+    io::write_all(STANDARD_OUTPUT, b": ");
     let mut net = io::large_buffer();
-    let net_length = read_file(&path(k, b'n', b'e', b't'), &mut net);
+    let net_length = read_file(files, &path(k, b'n', b'e', b't'), &mut net);
     let mut list_bytes = io::large_buffer();
-    let list_length = read_file(&path(k, b'l', b'a', b'b'), &mut list_bytes);
+    let list_length = read_file(files, &path(k, b'l', b'a', b'b'), &mut list_bytes);
     let answer = labels::check(&net[0..net_length], &list_bytes[0..list_length]);
-    io::print_decimal(STDOUT_FILENO, wide(answer));
-    io::write_all(STDOUT_FILENO, b"\n");
+    io::print_decimal(STANDARD_OUTPUT, wide(answer));
+    io::write_all(STANDARD_OUTPUT, b"\n");
 }
 
-fn main() {
+fn main(rt: HostRuntime) {
     let mut k = 0;
     while k < CASES {
-        run_case(k);
+        run_case(&rt, k);
         k += 1;
     }
 }

@@ -1,12 +1,12 @@
 -- Blocks inside the parents' blocks, those of one parent apart, make a numbering.
 -- In this order: blocks that nest; blocks of one depth are apart; a block holds exactly the descendants; the numbering.
 use mathlib.Core.Path.{◌≡◌, refl, sym, ap, ◌∙◌}
-use mathlib.Core.Logic.{◌⊎◌, inl, inr, ⊎_elim}
+use mathlib.Core.Logic.{inl, inr, ⊎_elim}
 use mathlib.Core.List.{List}
 use Prim.Native.Nat.{ℕ, zero, suc, ◌+◌, ◌-◌, ◌*◌, ◌≤◌, ◌<◌}
 use native.Mathlib.Decide.{ℕ_discrete, dec_lt}
 use native.Mathlib.Omega.{arith}
-use lib.ListN.{length, get_or}
+use lib.ListN.{get_or}
 use Rattle.paths.specs.Forest.{Above, parent_is, parent_has, Ancestor}
 use Rattle.network.specs.NetworkFile.{junctions_of}
 use Rattle.forest.specs.LabelFile.{parent_at, parents_of}

@@ -5,7 +5,7 @@ use mathlib.Core.Logic.{inl, inr, ⊎_elim}
 use mathlib.Core.List.{List}
 use Prim.Native.Nat.{ℕ, suc, ◌+◌, ◌-◌, ◌≤◌, ◌<◌}
 use native.Mathlib.Omega.{arith}
-use Rattle.paths.specs.Weights.{weights, energy, pair}
+use Rattle.paths.specs.Weights.{weights, energy}
 use Rattle.paths.specs.Network.{Walk, weight}
 use Rattle.paths.specs.TradeOff.{IsTradeOff, IsSum}
 use Rattle.paths.specs.Cut.{IsCut}

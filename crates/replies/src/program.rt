@@ -9,6 +9,9 @@ ghost use Rattle.replies.specs.working.Buffer.{FirstBytes};
 use crate::HandedOn;
 use crate::begin::begin;
 use crate::fill::fill;
+use reading::{read_full, read_further};
+use std::fs;
+use std::rt::Files;
 
 // How long a file is taken to be, from how many bytes were read and what one further read gave.
 fn taken_length(count: usize, rest: isize) -> usize
@@ -21,17 +24,17 @@ fn taken_length(count: usize, rest: isize) -> usize
 }
 
 // How many bytes of the file stand in the buffer; none if it is longer than the buffer or cannot be read.
-fn read_file(path: &[u8], buffer: &mut [u8]) -> usize
+fn read_file<R: Files>(files: &R, path: &[u8], buffer: &mut [u8]) -> usize
     ensures { IsPrefixLen result buffer.new }
 {
-    let mut more: [u8; 1] = [0; 1];
-    let file = os::open_read(path);
-    if file < 0 {
+    let Ok(name) = str::from_utf8(path) else {
         return 0;
-    }
-    let count = io::read_full(file, buffer);
-    let rest = libc::read(file, &mut more);
-    libc::close(file);
+    };
+    let Ok(mut file) = fs::open(files, name) else {
+        return 0;
+    };
+    let count = read_full(&mut file, buffer);
+    let rest = read_further(&mut file);
     taken_length(count, rest)
 }
 
@@ -118,14 +121,20 @@ fn answer_input(
 }
 
 // Answers the query lines of `input` on the two files.
-pub fn run(net_path: &[u8], labels_path: &[u8], input: i32, output: i32) {
+pub fn run<R: Files>(
+    files: &R,
+    net_path: &[u8],
+    labels_path: &[u8],
+    input: i32,
+    output: i32,
+) {
     let mut depths: [u32; 1024] = [0; 1024];
     let mut tables: [u32; 13312] = [0; 13312];
     let mut net = io::large_buffer();
     let mut labels = io::large_buffer();
     let mut text = io::large_buffer();
-    let net_length = read_file(net_path, &mut net);
-    let labels_length = read_file(labels_path, &mut labels);
+    let net_length = read_file(files, net_path, &mut net);
+    let labels_length = read_file(files, labels_path, &mut labels);
     answer_input(
         first_bytes(&net, net_length),
         first_bytes(&labels, labels_length),

@@ -11,7 +11,7 @@ use Rattle.paths.specs.declared.energy.Energy.{Energy}
 use Rattle.paths.proofs.OneLimit.{LastWithin}
 use Rattle.refusals.specs.Lent.{filled}
 use Rattle.refusals.proofs.Lent.{filled_none}
-use Rattle.lists.specs.Entries.{Weight, times, energies}
+use Rattle.lists.specs.Entries.{Weight}
 use Rattle.lists.specs.working.Lists.{above_all}
 use Rattle.lists.proofs.JoinBackwards.{below-some, below_none, filled_end, Counting, counting-start, counting_more, counting-none, counting_end, Filling, filling-start, filling-more}
 use Rattle.spans.specs.declared.Span.{Span}
@@ -26,9 +26,9 @@ use Rattle.query.specs.declared.Answer.TheVariants as case
 use Rattle.query.specs.declared.Between.{Between}
 use Rattle.query.specs.declared.Between.TheVariants.{Nothing, List as OneList, Lists as TwoLists}
 use Rattle.query.specs.working.AnswerValues.{number_of, time_of, energy_of}
-use Rattle.query.specs.working.Sums.{SumIn, Row, RowFits}
+use Rattle.query.specs.working.Sums.{SumIn, Row}
 use Rattle.tradeoffs.specs.declared.noting.Next.{Next}
-use Rattle.tradeoffs.specs.working.Tells.{ListOf, StoredList, JoinedList, Tells}
+use Rattle.tradeoffs.specs.working.Tells.{StoredList, JoinedList, Tells}
 use Rattle.tradeoffs.specs.working.Noting.{NextBelow}
 use Rattle.tradeoffs.specs.working.Written.{SomeList, Counted, ListWritten}
 use Rattle.tradeoffs.proofs.Lists.{list-ordered, answer_last, answer_none}

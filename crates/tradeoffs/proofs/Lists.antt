@@ -1,6 +1,6 @@
 -- The list of a set's unbeaten pairs, and which sets have the trade-off list of two junctions.
 -- In this order: what an answer tells of the list; a set that stands for all paths; the lists between two junctions.
-use mathlib.Core.Path.{◌≡◌, refl, sym, ap, ◌∙◌, subst}
+use mathlib.Core.Path.{◌≡◌, refl, ap, subst}
 use mathlib.Core.List.Memᴰ
 use mathlib.Core.List.{List, [], Memᴰ}
 use Prim.Native.Nat.{ℕ}
@@ -11,7 +11,6 @@ use Rattle.paths.specs.TradeOff.{Skyline, IsTradeOff, Ordered}
 use Rattle.paths.specs.Forest.{Common}
 use Rattle.paths.proofs.Figures.{number_lawful}
 use Rattle.paths.proofs.Weights.{weights_lawful, unbeaten-below, ⊑_not_later, not_later_antisym}
-use Rattle.paths.proofs.Answers.{BestEntry}
 use Rattle.paths.proofs.Crossing.{apart-without-common}
 use Rattle.paths.proofs.Existence.{trade_off_exists}
 use Rattle.paths.proofs.OneLimit.{LastWithin, rises-ordered, best_is_last_entry}
@@ -28,7 +27,7 @@ use Rattle.query.specs.working.AnswerValues.{number_of, time_of, energy_of}
 use Rattle.query.specs.working.AnswerFrom.{BestFrom, AnswerFrom, found, over_limit, not_connected}
 use Rattle.query.specs.working.Between.{Leads}
 use Rattle.query.proofs.WholeAnswers.{StandsFor, row_fits, row_stands, list-between-right, list-between-fits}
-use Rattle.tradeoffs.specs.working.Tells.{UnbeatenOf, ListOf, StoredList, JoinedList, Tells}
+use Rattle.tradeoffs.specs.working.Tells.{UnbeatenOf, ListOf, Tells}
 use Rattle.tradeoffs.specs.working.Written.{SomeList}
 
 -- ---- What an answer tells of the list

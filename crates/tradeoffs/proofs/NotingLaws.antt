@@ -1,6 +1,6 @@
 -- Sums of stored lists noted by their times. In this order: one level; all levels; what a span answers.
 use mathlib.Core.Path.{◌≡◌, refl, sym, ap, ◌∙◌}
-use mathlib.Core.Logic.{◌⊎◌, inl, inr, ⊎_elim}
+use mathlib.Core.Logic.{inl, inr, ⊎_elim}
 use mathlib.Core.List.{List}
 use Prim.Native.Nat.{ℕ, ◌+◌, ◌-◌, ◌≤◌, ◌<◌}
 use native.Mathlib.Omega.{arith}
@@ -15,7 +15,7 @@ use Rattle.spans.specs.working.Waiting.{most_time, Waiting, BestBelow}
 use Rattle.spans.proofs.NotingLaws.{lowered_none, lowered-same, SetParts, lowered_then}
 use Rattle.spans.proofs.TableLaws.{EnergiesRise, FittingSums}
 use Rattle.spans.proofs.WaitingLaws.{best-first, best-behind, best-waits, noted-best, noted-waits}
-use Rattle.forest.specs.LabelFile.{count_at, time_at, energy_at, list_end}
+use Rattle.forest.specs.LabelFile.{count_at, energy_at, list_end}
 use Rattle.stored.specs.working.Formed.{ListFits}
 use Rattle.query.specs.declared.Answer.{Answer}
 use Rattle.query.specs.declared.Answer.TheVariants as case
@@ -180,10 +180,6 @@ refused (case.Found takes spends) none e = none (record { takes = takes; spends 
 refused case.OffMap none e = omega arith
 refused case.NotConnected none e = omega arith
 refused case.OverLimit none e = omega arith
-
--- in the code a pair has key 0
-pub found_key : (◌≡◌ {A = ℕ} 0 1) ⊎ ((◌≡◌ {A = ℕ} 0 2) ⊎ (◌≡◌ {A = ℕ} 0 3)) → ⊥
-found_key k = ⊎_elim (λ e. omega arith) (⊎_elim (λ e. omega arith) (λ e. omega arith)) k
 
 -- what is found is the best of the set
 found-best :

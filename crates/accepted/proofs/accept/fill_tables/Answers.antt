@@ -1,5 +1,4 @@
 -- What is filled later leaves what was filled before.
-use borrow.Author.Rules.{rules}
 use Rattle.accepted.proofs.Accepts.{all_filled}
 use Rattle.accepted.proofs.accept.fill_tables.Goals as goal
 

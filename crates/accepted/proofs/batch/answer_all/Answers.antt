@@ -1,10 +1,7 @@
 -- `answer_all` answers triple after triple: each turn is `one_answered`.
 use borrow.Author.Rules.{rules}
-use Prim.Native.Nat.{◌≤◌, ◌-◌}
-use Rattle.accepted.specs.working.Triples.{AnsweredTo, Triples}
 use Rattle.accepted.proofs.BatchSteps.{none-answered, one_answered, all_answered}
 use native.Mathlib.Omega.{arith}
-use mathlib.Core.Path.{refl}
 use Rattle.accepted.proofs.batch.answer_all.Goals as goal
 
 pub loop-i-init : goal.loop-i-init
@@ -12,10 +9,10 @@ loop-i-init c = (omega arith, search rules, none-answered)
 
 pub loop-i-preserved : goal.loop-i-preserved
 loop-i-preserved c = (
-      omega arith,
-      c.loop-i.invariant.1,
-      one_answered c.loop-i.invariant.1 (omega arith) (omega arith) (omega arith) c.loop-i.invariant.2 c.answer-found.ensures c.put_answer.ensures,
-    )
+  omega arith,
+  c.loop-i.invariant.1,
+  one_answered c.loop-i.invariant.1 (omega arith) (omega arith) (omega arith) c.loop-i.invariant.2 c.answer-found.ensures c.put_answer.ensures,
+)
 
 pub returns : goal.returns
 returns c = search (all_answered)

@@ -1,10 +1,6 @@
 -- `answer_all` answers triple after triple: each turn is `one_answered`.
-use borrow.Author.Rules.{rules}
 use Prim.Native.Nat.{◌≤◌, ◌-◌}
 use Rattle.accepted.specs.working.Triples.{AnsweredTo, Triples}
-use Rattle.accepted.proofs.BatchSteps.{none-answered, one_answered, all_answered}
-use native.Mathlib.Omega.{arith}
-use mathlib.Core.Path.{refl}
 use Rattle.accepted.proofs.batch.answer_all.Given as goal
 
 abbrev pub invariant-loop-i : goal.invariant-loop-i

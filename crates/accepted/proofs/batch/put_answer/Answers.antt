@@ -1,10 +1,7 @@
 -- `put_answer` writes what the definitions give for each case of the answer.
-use borrow.Author.Rules.{rules}
 use native.Mathlib.Omega.{arith}
 use lib.ListN.{length-set}
-use mathlib.Core.Path.{◌≡◌}
-use mathlib.Core.Logic.{◌⊎◌, ⊎_elim}
-use Prim.Native.Nat.{ℕ}
+use mathlib.Core.Logic.{⊎_elim}
 use Rattle.accepted.proofs.BatchSteps.{pair_or_zeros}
 use Rattle.accepted.proofs.batch.put_answer.Goals as goal
 
@@ -12,12 +9,8 @@ pub bounds-answers-at-in_default : goal.bounds-answers-at-in_default
 bounds-answers-at-in_default c = simp length-set (omega arith)
 
 pub returns-in_default : goal.returns-in_default
-returns-in_default c = ⊎_elim (λ w. absurd (found_key (rw w.2 at c.in_default.keys2))) (λ w. rw (w.0, w.1, c.number_of_answer.ensures))
+returns-in_default c = ⊎_elim (λ w. absurd (c.in_default.not-Found w.0 w.1 w.2)) (λ w. rw (w.0, w.1, c.number_of_answer.ensures))
     (pair_or_zeros c.args.answer)
-  where
-    -- a found pair has key 0
-    found_key : (◌≡◌ {A = ℕ} 0 1) ⊎ ((◌≡◌ {A = ℕ} 0 2) ⊎ (◌≡◌ {A = ℕ} 0 3)) → ⊥
-    found_key k = ⊎_elim (λ e. omega arith) (⊎_elim (λ e. omega arith) (λ e. omega arith)) k
 
 pub bounds-answers-at-3 : goal.bounds-answers-at-3
 bounds-answers-at-3 c = simp length-set (omega arith)

@@ -1,10 +1,8 @@
 -- The invariant: the first i places of the lent slice hold the first i of the others.
-use mathlib.Core.Path.{◌≡◌, refl}
-use Prim.Native.Nat.{◌≤◌, ◌-◌}
+use mathlib.Core.Path.{refl}
 use native.Mathlib.Omega.{arith}
-use lib.ListN.{get_or, length}
 use borrow.Author.Rules.{rules}
-use Rattle.stored.proofs.Tabulate.{Filling, filling-none, filling-more, filling-places}
+use Rattle.stored.proofs.Tabulate.{filling-none, filling-more, filling-places}
 use Rattle.accepted.proofs.filling.fill_first.Goals as goal
 
 pub loop-i-init : goal.loop-i-init

@@ -1,10 +1,8 @@
 -- The invariant: the first i places of the lent slice hold the first i of the others.
-use mathlib.Core.Path.{◌≡◌, refl}
+use mathlib.Core.Path.{◌≡◌}
 use Prim.Native.Nat.{◌≤◌, ◌-◌}
-use native.Mathlib.Omega.{arith}
 use lib.ListN.{get_or, length}
-use borrow.Author.Rules.{rules}
-use Rattle.stored.proofs.Tabulate.{Filling, filling-none, filling-more, filling-places}
+use Rattle.stored.proofs.Tabulate.{Filling}
 use Rattle.accepted.proofs.filling.fill_first.Given as goal
 
 abbrev pub invariant-loop-i : goal.invariant-loop-i

@@ -2,7 +2,6 @@
 use mathlib.Core.Path.{refl}
 use native.Mathlib.Omega.{arith}
 use Rattle.accepted.proofs.ListAnswers.{itself_too_long, itself_put}
-use borrow.Author.Rules.{rules}
 use Rattle.accepted.proofs.list.list_of_itself.Goals as goal
 
 pub bounds-times-0 : goal.bounds-times-0

@@ -1,5 +1,4 @@
 -- The list is counted, then the room is tested, and only then the slices are filled: each way out is one law of `ListAnswers`.
-use borrow.Author.Rules.{rules}
 use mathlib.Core.Path.{refl}
 use native.Mathlib.Omega.{arith}
 use Rattle.tradeoffs.proofs.Lists.{tells_some}

@@ -1,9 +1,7 @@
 -- When the loop stands at v the junctions from v on are chained: none at first, one more with each turn, all at 0.
 use mathlib.Core.Path.{◌∙◌}
-use Prim.Native.Nat.{◌-◌, ◌≤◌}
+use Prim.Native.Nat.{◌-◌}
 use native.Mathlib.Omega.{arith}
-use Rattle.network.specs.NetworkFile.{junctions_of}
-use Rattle.preorder.specs.working.Levels.{LevelsFrom}
 use Rattle.preorder.proofs.Levels.{depth-inside, levels_more, levels_from_first}
 use borrow.Author.Rules.{rules}
 use Rattle.preorder.proofs.number.chain_levels.Goals as goal
@@ -45,14 +43,14 @@ bounds-heads-depth-in-loop-v c = let inside =
 
 pub loop-v-preserved : goal.loop-v-preserved
 loop-v-preserved c = (
-      omega arith,
-      levels_more
-          c.requires.parents_fit
-          (omega arith)
-          (c.wide-depth.ensures ∙ c.requires.depths_filled.depth (c.loop-v.v - 1) (omega arith))
-          (omega arith)
-          c.loop-v.invariant.1,
-    )
+  omega arith,
+  levels_more
+      c.requires.parents_fit
+      (omega arith)
+      (c.wide-depth.ensures ∙ c.requires.depths_filled.depth (c.loop-v.v - 1) (omega arith))
+      (omega arith)
+      c.loop-v.invariant.1,
+)
 
 pub returns : goal.returns
 returns c = levels_from_first c.loop-v.invariant.1 (omega arith)

@@ -1,11 +1,7 @@
 -- When the loop stands at v the junctions from v on are chained: none at first, one more with each turn, all at 0.
-use mathlib.Core.Path.{◌∙◌}
-use Prim.Native.Nat.{◌-◌, ◌≤◌}
-use native.Mathlib.Omega.{arith}
+use Prim.Native.Nat.{◌≤◌}
 use Rattle.network.specs.NetworkFile.{junctions_of}
 use Rattle.preorder.specs.working.Levels.{LevelsFrom}
-use Rattle.preorder.proofs.Levels.{depth-inside, levels_more, levels_from_first}
-use borrow.Author.Rules.{rules}
 use Rattle.preorder.proofs.number.chain_levels.Given as goal
 
 abbrev pub invariant-loop-v : goal.invariant-loop-v

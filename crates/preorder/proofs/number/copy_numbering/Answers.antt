@@ -1,9 +1,6 @@
 -- The first i of the three are copied, each to its own part of the table.
-use Prim.Native.Nat.{◌≤◌, ◌-◌}
 use native.Mathlib.Omega.{arith}
-use Rattle.preorder.specs.working.Blocks.{CopiedBelow}
 use Rattle.preorder.proofs.Placing.{copied_none, copied_more, copied_all}
-use borrow.Author.Rules.{rules}
 use Rattle.preorder.proofs.number.copy_numbering.Goals as goal
 
 pub loop-i-init : goal.loop-i-init

@@ -1,9 +1,6 @@
 -- The junctions below v are listed at their spots, and as no two have one spot none is written over.
 use Prim.Native.Nat.{◌≤◌, ◌-◌}
-use native.Mathlib.Omega.{arith}
 use Rattle.preorder.specs.working.Blocks.{Listed}
-use Rattle.preorder.proofs.Placing.{listed_more, listed_all}
-use borrow.Author.Rules.{rules}
 use Rattle.preorder.proofs.number.list_order.Given as goal
 
 abbrev pub invariant-loop-v : goal.invariant-loop-v

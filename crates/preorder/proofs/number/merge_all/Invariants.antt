@@ -1,11 +1,7 @@
 -- The levels from `level` down are merged: none at first, one more with each turn, all at 0.
-use mathlib.Core.Path.{sym}
 use Prim.Native.Nat.{◌≤◌}
-use native.Mathlib.Omega.{arith}
 use Rattle.network.specs.NetworkFile.{junctions_of}
 use Rattle.preorder.specs.working.Blocks.{Merged}
-use Rattle.preorder.proofs.Merging.{merged_as, merged_all}
-use borrow.Author.Rules.{rules}
 use Rattle.preorder.proofs.number.merge_all.Given as goal
 
 abbrev pub invariant-loop-level : goal.invariant-loop-level

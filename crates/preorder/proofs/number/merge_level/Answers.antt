@@ -2,11 +2,7 @@
 use mathlib.Core.Path.{sym}
 use Rattle.preorder.proofs.Levels.{stands-first, level-head, level-next}
 use Rattle.preorder.proofs.Merging.{merged_as, merged_next, merged_begin, merged_end}
-use Prim.Native.Nat.{◌-◌}
 use native.Mathlib.Omega.{arith}
-use Rattle.preorder.specs.working.Levels.{First}
-use Rattle.preorder.specs.working.Blocks.{Merged}
-use borrow.Author.Rules.{rules}
 use Rattle.preorder.proofs.number.merge_level.Goals as goal
 
 pub loop-v-init : goal.loop-v-init
@@ -14,7 +10,7 @@ loop-v-init c = let first = level-head c.requires.levels (omega (arith, c.requir
     (stands-first first, merged_begin c.requires.parents_fit.0 c.requires.merged first)
 
 pub merge-filled-requires : goal.merge-filled-requires
-merge-filled-requires c = record { parents_fit = (c.requires.parents_fit.0, omega arith); merged = merged_as c.loop-v.invariant.1 (sym (c.loop-v.invariant.0.at_level (omega arith))), }
+merge-filled-requires c = record { parents_fit = (c.requires.parents_fit.0, omega arith); merged = merged_as c.loop-v.invariant.1 (sym (c.loop-v.invariant.0.at_level (omega arith))) }
 
 pub loop-v-smaller : goal.loop-v-smaller
 loop-v-smaller c = let next = level-next c.requires.levels c.loop-v.invariant.0 (omega arith) c.wide-v-in-loop-v.ensures in

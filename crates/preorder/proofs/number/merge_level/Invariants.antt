@@ -1,12 +1,7 @@
 -- The loop stands at a junction of the level, and all deeper ones and those of the level below it are merged.
-use mathlib.Core.Path.{sym}
-use Rattle.preorder.proofs.Levels.{stands-first, level-head, level-next}
-use Rattle.preorder.proofs.Merging.{merged_as, merged_next, merged_begin, merged_end}
 use Prim.Native.Nat.{◌-◌}
-use native.Mathlib.Omega.{arith}
 use Rattle.preorder.specs.working.Levels.{First}
 use Rattle.preorder.specs.working.Blocks.{Merged}
-use borrow.Author.Rules.{rules}
 use Rattle.preorder.proofs.number.merge_level.Given as goal
 
 abbrev pub invariant-loop-v : goal.invariant-loop-v

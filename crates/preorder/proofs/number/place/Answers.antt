@@ -1,7 +1,6 @@
 -- A root stands at its offset; a child's parent is placed already, and the child stands at its offset behind it.
 use native.Mathlib.Omega.{arith}
 use Rattle.preorder.proofs.Placing.{placed-root, parent-inside, spot-small, placed-child}
-use borrow.Author.Rules.{rules}
 use Rattle.preorder.proofs.number.place.Goals as goal
 
 pub returns-then-parent-eq-NO_PARENT : goal.returns-then-parent-eq-NO_PARENT
@@ -12,17 +11,17 @@ bounds-spots-above c = search (parent-inside)
 
 pub overflow_add-spots : goal.overflow_add-spots
 overflow_add-spots c = omega (
-      arith,
-      c.requires.parents_fit.0.ends c.args.v c.requires.parents_fit.1,
-      spot-small
-          c.requires.parents_fit.0
-          c.requires.parents_fit.1
-          c.requires.parents_fit.2
-          c.requires.placed
-          c.parent_at-parent.ensures.is
-          c.if-parent-eq-NO_PARENT.false
-          c.wide-above.ensures,
-    )
+  arith,
+  c.requires.parents_fit.0.ends c.args.v c.requires.parents_fit.1,
+  spot-small
+      c.requires.parents_fit.0
+      c.requires.parents_fit.1
+      c.requires.parents_fit.2
+      c.requires.placed
+      c.parent_at-parent.ensures.is
+      c.if-parent-eq-NO_PARENT.false
+      c.wide-above.ensures,
+)
 
 pub returns : goal.returns
 returns c = search (placed-child)

@@ -1,10 +1,7 @@
 -- The levels above `level` are placed: none at first, one more with each turn, all at the count of junctions.
 use Prim.Native.Nat.{◌-◌, ◌≤◌}
-use native.Mathlib.Omega.{arith}
 use Rattle.network.specs.NetworkFile.{junctions_of}
 use Rattle.preorder.specs.working.Blocks.{Placed}
-use Rattle.preorder.proofs.Placing.{placed-none, placed_as}
-use borrow.Author.Rules.{rules}
 use Rattle.preorder.proofs.number.place_all.Given as goal
 
 abbrev pub invariant-loop-level : goal.invariant-loop-level

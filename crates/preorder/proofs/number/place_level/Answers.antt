@@ -2,11 +2,7 @@
 use mathlib.Core.Path.{sym}
 use Rattle.preorder.proofs.Levels.{stands-first, level-head, level-next}
 use Rattle.preorder.proofs.Placing.{placed_as, placed-next, placed_end}
-use Prim.Native.Nat.{◌-◌}
 use native.Mathlib.Omega.{arith}
-use Rattle.preorder.specs.working.Levels.{First}
-use Rattle.preorder.specs.working.Blocks.{Placed}
-use borrow.Author.Rules.{rules}
 use Rattle.preorder.proofs.number.place_level.Goals as goal
 
 pub loop-v-init : goal.loop-v-init
@@ -14,7 +10,7 @@ loop-v-init c = let first = level-head c.requires.levels (omega (arith, c.requir
     (stands-first first, placed-next c.requires.parents_fit.0 c.requires.placed first)
 
 pub place-requires : goal.place-requires
-place-requires c = record { parents_fit = (c.requires.parents_fit.0, omega arith, c.requires.parents_fit.2); placed = placed_as c.loop-v.invariant.1 (sym (c.loop-v.invariant.0.at_level (omega arith))), }
+place-requires c = record { parents_fit = (c.requires.parents_fit.0, omega arith, c.requires.parents_fit.2); placed = placed_as c.loop-v.invariant.1 (sym (c.loop-v.invariant.0.at_level (omega arith))) }
 
 pub loop-v-smaller : goal.loop-v-smaller
 loop-v-smaller c = let next = level-next c.requires.levels c.loop-v.invariant.0 (omega arith) c.wide-v-in-loop-v.ensures in

@@ -1,12 +1,7 @@
 -- The loop stands at a junction of the level, and all higher ones and those of the level below it are placed.
-use mathlib.Core.Path.{sym}
-use Rattle.preorder.proofs.Levels.{stands-first, level-head, level-next}
-use Rattle.preorder.proofs.Placing.{placed_as, placed-next, placed_end}
 use Prim.Native.Nat.{◌-◌}
-use native.Mathlib.Omega.{arith}
 use Rattle.preorder.specs.working.Levels.{First}
 use Rattle.preorder.specs.working.Blocks.{Placed}
-use borrow.Author.Rules.{rules}
 use Rattle.preorder.proofs.number.place_level.Given as goal
 
 abbrev pub invariant-loop-v : goal.invariant-loop-v

@@ -1,6 +1,5 @@
 -- The spots are read, and their order tells which of the two cases it is.
 use Rattle.query.proofs.BlockLaws.{stands-before, stands-behind}
-use borrow.Author.Rules.{rules}
 use Rattle.query.proofs.above.behind_by.Goals as goal
 
 pub returns-then-spot-start : goal.returns-then-spot-start

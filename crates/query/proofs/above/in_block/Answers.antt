@@ -1,6 +1,5 @@
 -- A block has as many spots as its size, which is less than what stands for a spot before it.
 use Rattle.query.proofs.BlockLaws.{block_tested}
-use borrow.Author.Rules.{rules}
 use Rattle.query.proofs.above.in_block.Goals as goal
 
 pub returns : goal.returns

@@ -1,7 +1,6 @@
 -- Each turn takes what is known further by one level.
 use Prim.Native.Nat.{◌-◌}
-use Rattle.query.proofs.Rows.{Rowed, along-near, along_far, near_next, far_next, rowed_none, rowed_more, rowed_all}
-use borrow.Author.Rules.{rules}
+use Rattle.query.proofs.Rows.{Rowed}
 use Rattle.query.proofs.across.across.Given as goal
 
 abbrev pub invariant-loop-done : goal.invariant-loop-done

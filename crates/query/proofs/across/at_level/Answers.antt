@@ -1,7 +1,6 @@
 -- An empty list has no sum; the first entries have the least energies and the last ones the least times.
 use mathlib.Core.Path.{refl}
 use Rattle.query.proofs.BestSums.{level-near-empty, level_far_empty, level-over, level-slow, level_worth, level_walked}
-use borrow.Author.Rules.{rules}
 use Rattle.query.proofs.across.at_level.Goals as goal
 
 pub returns-then-near_count-eq0 : goal.returns-then-near_count-eq0

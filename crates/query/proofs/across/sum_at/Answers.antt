@@ -1,7 +1,6 @@
 -- Both entries stand in the file, and two figures of entries add up within 32 bits.
 use native.Mathlib.Omega.{arith}
 use Rattle.query.proofs.ListPlaces.{entry-inside}
-use borrow.Author.Rules.{rules}
 use Rattle.query.proofs.across.sum_at.Goals as goal
 
 pub time_at-requires : goal.time_at-requires

@@ -1,11 +1,11 @@
 -- Every near entry that is passed has its best sum weighed; where the walk ends, no later one has a better sum.
-use mathlib.Core.Logic.{⊎_elim, inl, inr}
+use mathlib.Core.Logic.{inl, inr}
 use Prim.Native.Nat.{◌-◌}
 use native.Mathlib.Omega.{arith}
 use Rattle.query.proofs.ListPlaces.{entry-inside}
-use Rattle.query.proofs.BestSums.{Walked, walk_starts, walk_none, walk-slow, walk_more, walk_ends}
-use borrow.Author.Rules.{rules}
+use Rattle.query.proofs.BestSums.{walk_starts, walk_none, walk-slow, walk_more, walk_ends}
 use Rattle.query.proofs.across.walk_from.Goals as goal
+use Rattle.query.proofs.across.walk_from.Goals.{then-comes_before, else-comes_before}
 
 pub time_at-quickest-requires : goal.time_at-quickest-requires
 time_at-quickest-requires c = omega (arith, entry-inside c.requires.list_fits.0 {j = c.count_at-count.result - 1} (omega (arith, c.requires.near_nonzero, c.count_at-count.ensures)))
@@ -27,12 +27,12 @@ time_at-requires c = omega (arith, entry-inside c.requires.list_fits.1 {j = c.fi
 
 pub plus-requires : goal.plus-requires
 plus-requires c = omega (
-      arith,
-      c.time_at-quickest.ensures,
-      c.time_at.ensures,
-      (c.requires.list_fits.0.fitting_time (c.count_at-count.result - 1) (omega (arith, c.requires.near_nonzero, c.count_at-count.ensures))).1,
-      (c.requires.list_fits.1.fitting_time (c.fitting_from-j.result - 1) (omega (arith, c.fitting_from-j.ensures.in_range, c.loop-i.invariant.in_far))).1,
-    )
+  arith,
+  c.time_at-quickest.ensures,
+  c.time_at.ensures,
+  (c.requires.list_fits.0.fitting_time (c.count_at-count.result - 1) (omega (arith, c.requires.near_nonzero, c.count_at-count.ensures))).1,
+  (c.requires.list_fits.1.fitting_time (c.fitting_from-j.result - 1) (omega (arith, c.fitting_from-j.ensures.in_range, c.loop-i.invariant.in_far))).1,
+)
 
 pub returns-then-too_long : goal.returns-then-too_long
 returns-then-too_long c = walk-slow c.loop-i.invariant c.requires.list_fits.0 c.requires.list_fits.1 (omega (arith, c.count_at-count.ensures)) c.energy_at.ensures c.fitting_from-j.ensures c.if-j-eq0.false
@@ -47,7 +47,7 @@ overflow_add-i c = omega (arith, c.loop-i-test.true, c.count_at-count.ensures, c
 pub loop-i-preserved : goal.loop-i-preserved
 loop-i-preserved c = walk_more c.loop-i.invariant c.requires.list_fits.0 c.requires.list_fits.1 (omega (arith, c.count_at-count.ensures)) c.energy_at.ensures c.fitting_from-j.ensures
     c.if-j-eq0.false c.sum_at-candidate.ensures c.comes_before.ensures
-    (⊎_elim (λ m. inl (m.0.taken, m.1)) (λ m. inr (m.0.left, m.1)) c.if-comes_before.branch)
+    (elim c.if-comes_before.branch [ then-comes_before m ↦ inl (m.if-comes_before.true, m.best-is) | else-comes_before m ↦ inr (m.if-comes_before.false, m.best-is) ])
 
 pub returns : goal.returns
 returns c = walk_ends c.loop-i.invariant c.count_at-count.ensures c.loop-i-test.false

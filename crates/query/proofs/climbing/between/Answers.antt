@@ -2,42 +2,26 @@
 use mathlib.Core.Path.{sym}
 use mathlib.Core.Logic.{inl, inr}
 use native.Mathlib.Omega.{arith}
-use Rattle.paths.specs.Forest.{Above}
-use Rattle.forest.specs.LabelFile.{parents_of}
 use Rattle.query.proofs.BlockLaws.{block_above, outside_block, block_small, above-deeper}
 use Rattle.query.proofs.ClimbLaws.{leads_of, raised_near, raised_far}
-use borrow.Author.Rules.{rules}
 use Rattle.query.proofs.climbing.between.Goals as goal
-
--- y stands above x
-above-x : (c : tie.Then2) → let args = c.before.before.before.before.before.before.args in Above (parents_of args.labels.now) args.y args.x
-above-x c =
-    let pre = c.before.before.before.before.before.before.requires in
-    block_above pre.1.0 pre.1.1.1 pre.1.1.0 (c.before.in_block.ensures.holds c.if2.true) (λ e. pre.1.1.2 (sym e))
-
-
--- x stands above y
-above-y : (c : tie.Then3) → let args = c.before.before.before.before.before.before.args in Above (parents_of args.labels.now) args.x args.y
-above-y c =
-    let pre = c.before.before.before.before.before.before.requires in
-    block_above pre.1.0 pre.1.1.0 pre.1.1.1 (c.before.in-block2.ensures.holds c.if3.true) pre.1.1.2
-
 
 -- ---- x is the deeper
 pub in_block-requires : goal.in_block-requires
 in_block-requires c = record { tables_len = c.requires.numbered.places; u_bound = (omega (arith, c.requires.formed.0.parents.few_junctions, c.requires.x_bound.1), omega (arith, c.requires.formed.0.parents.few_junctions, c.requires.x_bound.0)); u_bound_2 = block_small c.requires.formed.0 c.requires.numbered c.requires.x_bound.1 }
 
+-- y stands above x
 pub list_above-requires : goal.list_above-requires
-list_above-requires c = record { formed = c.requires.formed.0; depths_filled = c.requires.formed.1; starts_filled = c.requires.formed.2; v_bound = (c.requires.x_bound.0, c.requires.x_bound.1); u_bound = above-deeper c.requires.formed.0 (above-x c) }
+list_above-requires c = record { formed = c.requires.formed.0; depths_filled = c.requires.formed.1; starts_filled = c.requires.formed.2; v_bound = (c.requires.x_bound.0, c.requires.x_bound.1); u_bound = above-deeper c.requires.formed.0 (block_above c.requires.numbered c.requires.x_bound.1 c.requires.x_bound.0 (c.in_block.ensures.holds c.if-in_block.true) (λ e. c.requires.x_bound.2 (sym e))) }
 
 pub returns-then-in_block : goal.returns-then-in_block
-returns-then-in_block c = record { either = inl (above-x c, c.list_above.ensures.place) }
+returns-then-in_block c = record { either = inl (block_above c.requires.numbered c.requires.x_bound.1 c.requires.x_bound.0 (c.in_block.ensures.holds c.if-in_block.true) (λ e. c.requires.x_bound.2 (sym e)), c.list_above.ensures.place) }
 
 pub climb_of-near-requires : goal.climb_of-near-requires
 climb_of-near-requires c = record { formed = (c.requires.formed.0, c.requires.formed.2); v_bound = (c.requires.x_bound.0, omega (arith, c.requires.formed.1.depth _ c.requires.x_bound.0)) }
 
 pub meet-requires : goal.meet-requires
-meet-requires c = let outside = outside_block c.requires.numbered c.requires.x_bound.1 c.requires.x_bound.0 (c.in_block.ensures.fails c.if-in_block.false) in record { formed = c.requires.formed.0; abreast = raised_near c.requires.formed.0 c.requires.formed.1 (omega (arith, c.if-depth_y-depth_x.true)) c.climb_of-near.ensures c.climb_of.ensures outside, }
+meet-requires c = let outside = outside_block c.requires.numbered c.requires.x_bound.1 c.requires.x_bound.0 (c.in_block.ensures.fails c.if-in_block.false) in record { formed = c.requires.formed.0; abreast = raised_near c.requires.formed.0 c.requires.formed.1 (omega (arith, c.if-depth_y-depth_x.true)) c.climb_of-near.ensures c.climb_of.ensures outside }
 
 pub returns-then-depth_y-depth_x : goal.returns-then-depth_y-depth_x
 returns-then-depth_y-depth_x c = leads_of c.args.labels.now c.meet.result c.climb_of-near.ensures.of c.climb_of.ensures.of c.meet.ensures
@@ -46,11 +30,12 @@ returns-then-depth_y-depth_x c = leads_of c.args.labels.now c.meet.result c.clim
 pub in_block-requires-2 : goal.in_block-requires-2
 in_block-requires-2 c = record { tables_len = c.requires.numbered.places; u_bound = (omega (arith, c.requires.formed.0.parents.few_junctions, c.requires.x_bound.0), omega (arith, c.requires.formed.0.parents.few_junctions, c.requires.x_bound.1)); u_bound_2 = block_small c.requires.formed.0 c.requires.numbered c.requires.x_bound.0 }
 
+-- x stands above y
 pub list_above-requires-then-in_block-2 : goal.list_above-requires-then-in_block-2
-list_above-requires-then-in_block-2 c = record { formed = c.requires.formed.0; depths_filled = c.requires.formed.1; starts_filled = c.requires.formed.2; v_bound = (c.requires.x_bound.1, c.requires.x_bound.0); u_bound = above-deeper c.requires.formed.0 (above-y c) }
+list_above-requires-then-in_block-2 c = record { formed = c.requires.formed.0; depths_filled = c.requires.formed.1; starts_filled = c.requires.formed.2; v_bound = (c.requires.x_bound.1, c.requires.x_bound.0); u_bound = above-deeper c.requires.formed.0 (block_above c.requires.numbered c.requires.x_bound.0 c.requires.x_bound.1 (c.in_block-2.ensures.holds c.if-in_block-2.true) c.requires.x_bound.2) }
 
 pub returns-then-in_block-2 : goal.returns-then-in_block-2
-returns-then-in_block-2 c = record { either = inr (above-y c, c.list_above-then-in_block-2.ensures.place) }
+returns-then-in_block-2 c = record { either = inr (block_above c.requires.numbered c.requires.x_bound.0 c.requires.x_bound.1 (c.in_block-2.ensures.holds c.if-in_block-2.true) c.requires.x_bound.2, c.list_above-then-in_block-2.ensures.place) }
 
 pub climb_of-requires-2 : goal.climb_of-requires-2
 climb_of-requires-2 c = record { formed = (c.requires.formed.0, c.requires.formed.2); v_bound = (c.requires.x_bound.1, omega (arith, c.requires.formed.1.depth _ c.requires.x_bound.1)) }

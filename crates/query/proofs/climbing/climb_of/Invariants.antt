@@ -1,11 +1,7 @@
 -- The climb is as many steps up as are done.
-use mathlib.Core.Path.{◌≡◌, refl}
 use Prim.Native.Nat.{◌-◌, ◌≤◌}
-use native.Mathlib.Omega.{arith}
 use Rattle.forest.specs.Forest.{depth_of}
 use Rattle.query.specs.working.Between.{Climbs}
-use Rattle.query.proofs.ClimbLaws.{climb_starts, climb-inside, climb-more}
-use borrow.Author.Rules.{rules}
 use Rattle.query.proofs.climbing.climb_of.Given as goal
 
 abbrev pub invariant-loop-done : goal.invariant-loop-done

@@ -2,9 +2,7 @@
 use mathlib.Core.Path.{◌≡◌}
 use Prim.Native.Nat.{suc, ◌-◌}
 use native.Mathlib.Omega.{arith}
-use Rattle.query.specs.working.Between.{Abreast}
 use Rattle.query.proofs.ClimbLaws.{climb-inside, abreast_ends, abreast_more, abreast_meets}
-use borrow.Author.Rules.{rules}
 use Rattle.query.proofs.climbing.meet.Goals as goal
 
 pub step-above_left-requires : goal.step-above_left-requires

@@ -1,10 +1,5 @@
 -- No common ancestor is as deep as the climbs, so the first parents that are one are where the branches meet.
-use mathlib.Core.Path.{◌≡◌}
-use Prim.Native.Nat.{suc, ◌-◌}
-use native.Mathlib.Omega.{arith}
 use Rattle.query.specs.working.Between.{Abreast}
-use Rattle.query.proofs.ClimbLaws.{climb-inside, abreast_ends, abreast_more, abreast_meets}
-use borrow.Author.Rules.{rules}
 use Rattle.query.proofs.climbing.meet.Given as goal
 
 abbrev pub invariant-loop-levels : goal.invariant-loop-levels

@@ -3,7 +3,6 @@ use mathlib.Core.Path.{refl}
 use Prim.Native.Nat.{◌-◌}
 use native.Mathlib.Omega.{arith}
 use Rattle.query.proofs.ListPlaces.{entry-inside, list-empty, list_over, list-best}
-use borrow.Author.Rules.{rules}
 use Rattle.query.proofs.direct.from_list.Goals as goal
 
 pub returns-then-count_at-eq0 : goal.returns-then-count_at-eq0

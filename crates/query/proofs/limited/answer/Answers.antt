@@ -3,7 +3,6 @@ use mathlib.Core.Path.{refl}
 use mathlib.Core.Logic.{inl, inr}
 use native.Mathlib.Omega.{arith}
 use Rattle.query.specs.Answers.{off_map}
-use borrow.Author.Rules.{rules}
 use Rattle.query.proofs.limited.answer.Goals as goal
 
 pub returns-then-s-junctions : goal.returns-then-s-junctions

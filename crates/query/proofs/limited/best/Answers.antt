@@ -1,6 +1,5 @@
 -- A junction and itself, two trees, one above the other, two branches: in each case the pairs that are searched stand for all paths.
 use Rattle.query.proofs.WholeAnswers.{leads-nowhere, leads-list, leads-lists, list-between-fits, row_fits, answer_itself, answer_apart, answer_list, answer_lists}
-use borrow.Author.Rules.{rules}
 use Rattle.query.proofs.limited.best.Goals as goal
 
 pub returns-then-x-y : goal.returns-then-x-y

@@ -1,6 +1,5 @@
 -- What is known after all levels, beginning with nothing, is the best sum of them all.
 use Rattle.query.proofs.Rows.{row_answer}
-use borrow.Author.Rules.{rules}
 use Rattle.query.proofs.limited.from_lists.Goals as goal
 
 pub returns : goal.returns

@@ -3,7 +3,6 @@ use Rattle.std.proofs.lemmas.Bool.{not_from_false, not_from_true}
 use mathlib.Core.Path.{refl, sym, ◌∙◌}
 use borrow.Author.Tests.{eqb-true, eqb-false, not-true, not-false}
 use Rattle.query.specs.working.Sums.{told_found, told_over, told_apart}
-use borrow.Author.Rules.{rules}
 use Rattle.query.proofs.limited.told.Goals as goal
 
 pub returns-then-not-equals : goal.returns-then-not-equals

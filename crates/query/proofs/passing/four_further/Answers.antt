@@ -2,7 +2,6 @@
 use mathlib.Core.Path.{sym}
 use native.Mathlib.Omega.{arith}
 use Rattle.stored.proofs.Places.{further-later}
-use borrow.Author.Rules.{rules}
 use Rattle.query.proofs.passing.four_further.Goals as goal
 
 pub overflow_sub-labels : goal.overflow_sub-labels

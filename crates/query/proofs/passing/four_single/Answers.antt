@@ -2,7 +2,6 @@
 use native.Mathlib.Omega.{arith}
 use borrow.Author.Tests.{eqb-true}
 use Rattle.query.proofs.PassLaws.{product_fits, products_tell}
-use borrow.Author.Rules.{rules}
 use Rattle.query.proofs.passing.four_single.Goals as goal
 
 pub overflow_mul-result : goal.overflow_mul-result

@@ -1,9 +1,6 @@
 -- After each turn the place is four lists further.
 use Prim.Native.Nat.{◌-◌}
-use native.Mathlib.Omega.{arith}
-use Rattle.stored.proofs.Places.{Moved, moved_none}
-use Rattle.query.proofs.PassLaws.{moved-ahead, moved_by, moved-rest}
-use borrow.Author.Rules.{rules}
+use Rattle.stored.proofs.Places.{Moved}
 use Rattle.query.proofs.passing.pass_lists.Given as goal
 
 abbrev pub invariant-loop-done : goal.invariant-loop-done

@@ -1,7 +1,6 @@
 -- Each count has 16 bits, so their product fits.
 use native.Mathlib.Omega.{arith}
 use Rattle.query.proofs.PassLaws.{product_small, counts_product}
-use borrow.Author.Rules.{rules}
 use Rattle.query.proofs.passing.product_at.Goals as goal
 
 pub overflow_mul-result : goal.overflow_mul-result

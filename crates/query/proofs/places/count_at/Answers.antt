@@ -1,6 +1,5 @@
 -- The count of a list that fits stands in the file.
 use Rattle.query.proofs.ListPlaces.{count-stands}
-use borrow.Author.Rules.{rules}
 use Rattle.query.proofs.places.count_at.Goals as goal
 
 pub count-requires : goal.count-requires

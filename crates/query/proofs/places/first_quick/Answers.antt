@@ -1,8 +1,7 @@
 -- What is too slow comes first, so the entry in the middle tells on which side its end is.
-use Prim.Native.Nat.{◌+◌, ◌-◌, ◌/◌}
+use Prim.Native.Nat.{◌+◌, ◌/◌}
 use native.Mathlib.Omega.{arith}
-use Rattle.query.proofs.ListPlaces.{entry-inside, Slowed, slowed_none, slowed_slow, slowed_quick, slowed_end}
-use borrow.Author.Rules.{rules}
+use Rattle.query.proofs.ListPlaces.{entry-inside, slowed_none, slowed_slow, slowed_quick, slowed_end}
 use Rattle.query.proofs.places.first_quick.Goals as goal
 
 pub loop-low-init : goal.loop-low-init

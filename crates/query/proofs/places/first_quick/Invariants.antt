@@ -1,8 +1,6 @@
 -- What is too slow comes first, so the entry in the middle tells on which side its end is.
-use Prim.Native.Nat.{◌+◌, ◌-◌, ◌/◌}
-use native.Mathlib.Omega.{arith}
-use Rattle.query.proofs.ListPlaces.{entry-inside, Slowed, slowed_none, slowed_slow, slowed_quick, slowed_end}
-use borrow.Author.Rules.{rules}
+use Prim.Native.Nat.{◌-◌}
+use Rattle.query.proofs.ListPlaces.{Slowed}
 use Rattle.query.proofs.places.first_quick.Given as goal
 
 abbrev pub invariant-loop-low : goal.invariant-loop-low

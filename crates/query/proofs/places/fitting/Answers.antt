@@ -1,8 +1,7 @@
 -- What fits comes first, so the entry in the middle tells on which side its end is.
-use Prim.Native.Nat.{◌+◌, ◌-◌, ◌/◌}
+use Prim.Native.Nat.{◌+◌, ◌/◌}
 use native.Mathlib.Omega.{arith}
-use Rattle.query.proofs.ListPlaces.{entry-inside, Halved, halved_none, halved_over, halved_fits, halved_end}
-use borrow.Author.Rules.{rules}
+use Rattle.query.proofs.ListPlaces.{entry-inside, halved_none, halved_over, halved_fits, halved_end}
 use Rattle.query.proofs.places.fitting.Goals as goal
 
 pub loop-low-init : goal.loop-low-init

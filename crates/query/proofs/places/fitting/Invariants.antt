@@ -1,8 +1,6 @@
 -- What fits comes first, so the entry in the middle tells on which side its end is.
-use Prim.Native.Nat.{◌+◌, ◌-◌, ◌/◌}
-use native.Mathlib.Omega.{arith}
-use Rattle.query.proofs.ListPlaces.{entry-inside, Halved, halved_none, halved_over, halved_fits, halved_end}
-use borrow.Author.Rules.{rules}
+use Prim.Native.Nat.{◌-◌}
+use Rattle.query.proofs.ListPlaces.{Halved}
 use Rattle.query.proofs.places.fitting.Given as goal
 
 abbrev pub invariant-loop-low : goal.invariant-loop-low

@@ -2,8 +2,7 @@
 use Rattle.std.proofs.lemmas.Bool.{not_from_false, not_from_true}
 use Prim.Native.Nat.{◌-◌}
 use native.Mathlib.Omega.{arith}
-use Rattle.query.proofs.ListPlaces.{entry-inside, Down, down-start, down-found, down-more, down_end}
-use borrow.Author.Rules.{rules}
+use Rattle.query.proofs.ListPlaces.{entry-inside, down-start, down-found, down-more, down_end}
 use Rattle.query.proofs.places.fitting_from.Goals as goal
 
 pub loop-j-init : goal.loop-j-init

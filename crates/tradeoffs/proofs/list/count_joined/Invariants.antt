@@ -1,8 +1,5 @@
 -- Each best answer below the bound is the last entry of the list there, so the entries are counted one by one, from the last to the first.
-use native.Mathlib.Omega.{arith}
-use Rattle.tradeoffs.proofs.NotingLaws.{refused, found_key}
-use Rattle.tradeoffs.proofs.ListSteps.{CountingList, count-start, count-more, count_less, count_none, counted_end}
-use borrow.Author.Rules.{rules}
+use Rattle.tradeoffs.proofs.ListSteps.{CountingList}
 use Rattle.tradeoffs.proofs.list.count_joined.Given as goal
 
 abbrev pub invariant-loop-bound : goal.invariant-loop-bound

@@ -1,9 +1,6 @@
 -- As many entries of the list lie below the bound as places are left, and the best answer there is the last of them, which goes to the last
 -- of those places.
-use native.Mathlib.Omega.{arith}
-use Rattle.tradeoffs.proofs.NotingLaws.{refused, found_key}
-use Rattle.tradeoffs.proofs.ListSteps.{FillingList, fill_start, fill_bound, fill_more, fill_never, fill_end}
-use borrow.Author.Rules.{rules}
+use Rattle.tradeoffs.proofs.ListSteps.{FillingList}
 use Rattle.tradeoffs.proofs.list.fill_joined.Given as goal
 
 abbrev pub invariant-loop-place : goal.invariant-loop-place

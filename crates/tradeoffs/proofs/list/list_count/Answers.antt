@@ -2,7 +2,6 @@
 use mathlib.Core.Path.{refl}
 use Rattle.query.proofs.ListPlaces.{count-stands}
 use Rattle.tradeoffs.proofs.ListSteps.{some_more, counted-more, none_told, told_one, one_told, told_two, two_told, none-counted, stored-counted}
-use borrow.Author.Rules.{rules}
 use Rattle.tradeoffs.proofs.list.list_count.Goals as goal
 
 pub count-requires : goal.count-requires

@@ -1,8 +1,7 @@
 -- No list, one list, two lists for each common ancestor: in each case the list written is the one that is told.
 use mathlib.Core.Path.{refl}
 use native.Mathlib.Omega.{arith}
-use Rattle.tradeoffs.proofs.ListSteps.{ counted-more, written-more, told_none, none_told, told_one, one_told, told_two, two_told, none_written, stored-room, stored-written, }
-use borrow.Author.Rules.{rules}
+use Rattle.tradeoffs.proofs.ListSteps.{counted-more, written-more, told_none, none_told, told_one, one_told, told_two, two_told, none_written, stored-room, stored-written}
 use Rattle.tradeoffs.proofs.list.list_fill.Goals as goal
 
 pub load-requires : goal.load-requires

@@ -1,10 +1,7 @@
 -- Each turn notes the sum with one far entry more, and what stands behind the span makes no difference to it.
-use Prim.Native.Nat.{◌-◌}
 use native.Mathlib.Omega.{arith}
-use Rattle.query.specs.working.Sums.{sum_of}
-use Rattle.spans.proofs.TableLaws.{EntryNoted, entry-none, entry_all, entry-later, entry_more, entry-beyond}
+use Rattle.spans.proofs.TableLaws.{entry-none, entry_all, entry-later, entry_more, entry-beyond}
 use Rattle.tradeoffs.proofs.NotingLaws.{level_falls}
-use borrow.Author.Rules.{rules}
 use Rattle.tradeoffs.proofs.noting.note_entry.Goals as goal
 
 pub loop-j-init : goal.loop-j-init

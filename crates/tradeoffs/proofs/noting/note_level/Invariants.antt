@@ -1,12 +1,8 @@
 -- Each turn notes the sums of one near entry more with the far entries that fit beside it.
-use Prim.Native.Nat.{◌-◌, ◌<◌}
-use native.Mathlib.Omega.{arith}
+use Prim.Native.Nat.{◌-◌}
 use Rattle.forest.specs.LabelFile.{count_at}
-use Rattle.query.proofs.ListPlaces.{entry-inside}
 use Rattle.query.specs.working.Sums.{sum_of}
-use Rattle.spans.proofs.TableLaws.{SumsNoted, sums_none, sums_all, sums_unfit, sums_end, sums-later, sums_next}
-use Rattle.tradeoffs.proofs.NotingLaws.{level_before, level-lowered, level_rise, level-fitting}
-use borrow.Author.Rules.{rules}
+use Rattle.spans.proofs.TableLaws.{SumsNoted}
 use Rattle.tradeoffs.proofs.noting.note_level.Given as goal
 
 abbrev pub invariant-loop-i : goal.invariant-loop-i

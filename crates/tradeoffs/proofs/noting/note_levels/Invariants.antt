@@ -1,8 +1,6 @@
 -- Each turn notes the sums of one level more.
 use Prim.Native.Nat.{◌-◌}
-use Rattle.query.proofs.Rows.{along-near, along_far, near_next, far_next}
-use Rattle.tradeoffs.proofs.NotingLaws.{RowNoted, row_none, row_later, row_more, row_all}
-use borrow.Author.Rules.{rules}
+use Rattle.tradeoffs.proofs.NotingLaws.{RowNoted}
 use Rattle.tradeoffs.proofs.noting.note_levels.Given as goal
 
 abbrev pub invariant-loop-done : goal.invariant-loop-done

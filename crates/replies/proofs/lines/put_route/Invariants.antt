@@ -1,0 +1,12 @@
+-- `replies::lines::put_route` puts junction after junction: each turn is `route-more`.
+use Prim.Native.Nat.{◌≤◌, ◌-◌}
+use native.Mathlib.Omega.{arith}
+use Rattle.replies.proofs.LineLaws.{RoutePut, route-start, route-more, route-room, route-whole}
+use borrow.Author.Rules.{rules}
+use Rattle.replies.proofs.lines.put_route.Given as goal
+
+abbrev pub invariant-loop-i : goal.invariant-loop-i
+invariant-loop-i l = (l.i ≤ l.count) × RoutePut l.initial.out l.initial.end l.junctions l.out l.i l.end
+
+abbrev pub decreases-loop-i : goal.decreases-loop-i
+decreases-loop-i l = l.count - l.i
