@@ -9,5 +9,11 @@ const STANDARD_INPUT: i32 = 0;
 const STANDARD_OUTPUT: i32 = 1;
 
 fn main(rt: HostRuntime) {
-    run(&rt, b"net.trn", b"labels.tlb", STANDARD_INPUT, STANDARD_OUTPUT);
+    run(
+        &rt,
+        b"net.trn",
+        b"labels.tlb",
+        STANDARD_INPUT,
+        STANDARD_OUTPUT,
+    );
 }

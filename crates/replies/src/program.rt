@@ -121,13 +121,7 @@ fn answer_input(
 }
 
 // Answers the query lines of `input` on the two files.
-pub fn run<R: Files>(
-    files: &R,
-    net_path: &[u8],
-    labels_path: &[u8],
-    input: i32,
-    output: i32,
-) {
+pub fn run<R: Files>(files: &R, net_path: &[u8], labels_path: &[u8], input: i32, output: i32) {
     let mut depths: [u32; 1024] = [0; 1024];
     let mut tables: [u32; 13312] = [0; 13312];
     let mut net = io::large_buffer();

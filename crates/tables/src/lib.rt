@@ -1,6 +1,7 @@
 // What is worked out once per call travels in one lent array: where each junction's lists start, the roads at each junction, the
 // junctions' numbering. Each part begins at its own place.
 #![tactic(auto)]
+
 ghost use Rattle.std.specs.Prelude.{◌≡◌, ◌<◌, length, get_or};
 ghost use Rattle.tables.specs.working.Layout.{table_places};
 

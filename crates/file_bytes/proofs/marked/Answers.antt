@@ -15,15 +15,15 @@ returns-then-s-b c = rw (eq-eqb _ _ c.if-s-a.false, ne_eqb _ _ c.if-s-b.true)
 pub returns-then-s-c : goal.returns-then-s-c
 unfolding marked
 returns-then-s-c c = rw (
-      eq-eqb _ _ c.if-s-a.false,
-      eq-eqb _ _ c.if-s-b.false,
-      ne_eqb _ _ c.if-s-c.true,
-    )
+  eq-eqb _ _ c.if-s-a.false,
+  eq-eqb _ _ c.if-s-b.false,
+  ne_eqb _ _ c.if-s-c.true,
+)
 
 pub returns : goal.returns
 unfolding marked
 returns c = rw (
-      eq-eqb _ _ c.if-s-a.false,
-      eq-eqb _ _ c.if-s-b.false,
-      eq-eqb _ _ c.if-s-c.false,
-    )
+  eq-eqb _ _ c.if-s-a.false,
+  eq-eqb _ _ c.if-s-b.false,
+  eq-eqb _ _ c.if-s-c.false,
+)

@@ -16,7 +16,6 @@ use Rattle.exact.proofs.sweep.exact.Goals as goal
 one_less : {i : ℕ} → 0 < i → i - 1 + 1 ≡ i
 one_less some = omega arith
 
-
 pub loop-i-init : goal.loop-i-init
 loop-i-init c = (omega (arith, c.junctions_of-i.ensures.is), from_none c.requires.files_fit.0 c.requires.files_fit.1.numbered c.junctions_of-i.ensures.is, swept_none c.requires.files_fit.0.formed c.requires.files_fit.1.numbered c.junctions_of-i.ensures.is c.requires.places_len, c.requires.unmarked)
 

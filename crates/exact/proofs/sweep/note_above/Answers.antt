@@ -15,10 +15,10 @@ overflow_cast-places c = omega (arith, here-inside c.requires.formed c.requires.
 
 pub bounds-places-w : goal.bounds-places-w
 bounds-places-w c = omega (
-      arith,
-      next_on_map c.requires.formed c.requires.u_bound c.loop-k.invariant c.loop-k-test.true c.parent_at-w.ensures.is,
-      c.requires.formed.parents.few_junctions,
-    )
+  arith,
+  next_on_map c.requires.formed c.requires.u_bound c.loop-k.invariant c.loop-k-test.true c.parent_at-w.ensures.is,
+  c.requires.formed.parents.few_junctions,
+)
 
 pub next-place-requires : goal.next-place-requires
 next-place-requires c = search (here-inside, rules)

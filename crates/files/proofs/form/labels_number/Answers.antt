@@ -20,28 +20,27 @@ returns-then-parents-ne0 c = search (labels-numbered, read-parents)
 
 pub roads_join-requires : goal.roads_join-requires
 roads_join-requires c = let few = fit_few _ c.requires.network_fits c.same-network.ensures c.if2.false in (
-      c.requires.network_fits,
-      (
-        fit_size _ c.requires.network_fits c.same-network.ensures c.if2.false,
-        (
-          numbered_fit few c.parents-form.ensures c.if3.false,
-          numbered-filled c.parents-form.ensures c.if3.false,
-        ),
-      ),
-    )
+  c.requires.network_fits,
+  (
+    fit_size _ c.requires.network_fits c.same-network.ensures c.if2.false,
+    (
+      numbered_fit few c.parents-form.ensures c.if3.false,
+      numbered-filled c.parents-form.ensures c.if3.false,
+    ),
+  ),
+)
 
 pub returns-then-not-roads_join : goal.returns-then-not-roads_join
 returns-then-not-roads_join c = search (labels-numbered, read_unjoined)
 
 pub lists_form-requires : goal.lists_form-requires
-lists_form-requires c = let few = fit_few _ c.requires.network_fits c.same-network.ensures c.if2.false in
-    (
-      numbered_fit few c.parents-form.ensures c.if3.false,
-      (
-        numbered-filled c.parents-form.ensures c.if3.false,
-        (header_few _ _ c.header-form.ensures c.if1.false, c.requires.tables_len),
-      ),
-    )
+lists_form-requires c = let few = fit_few _ c.requires.network_fits c.same-network.ensures c.if2.false in (
+  numbered_fit few c.parents-form.ensures c.if3.false,
+  (
+    numbered-filled c.parents-form.ensures c.if3.false,
+    (header_few _ _ c.header-form.ensures c.if1.false, c.requires.tables_len),
+  ),
+)
 
 pub returns : goal.returns
 returns c = search (labels-numbered, read-lists)

@@ -21,12 +21,12 @@ returns-then-parents-ne0 c = search (labels-numbered-alone, read-parents)
 
 pub lists_form-requires : goal.lists_form-requires
 lists_form-requires c = let few = alone_few _ c.junctions-fit.ensures c.if2.false in (
-      numbered_fit few c.parents-form.ensures c.if3.false,
-      (
-        numbered-filled c.parents-form.ensures c.if3.false,
-        (header_few _ _ c.header-form.ensures c.if1.false, c.requires.tables_len),
-      ),
-    )
+  numbered_fit few c.parents-form.ensures c.if3.false,
+  (
+    numbered-filled c.parents-form.ensures c.if3.false,
+    (header_few _ _ c.header-form.ensures c.if1.false, c.requires.tables_len),
+  ),
+)
 
 pub returns : goal.returns
 returns c = labels-numbered-alone

@@ -10,9 +10,9 @@ loop-steps-init c = search (climb-start)
 
 pub parent_at-parent-requires : goal.parent_at-parent-requires
 parent_at-parent-requires c = omega (
-      arith,
-      climb_on_map c.args.v c.args.k c.requires.parents_fit c.requires.v_bound c.requires.k_bound c.loop-steps.invariant,
-    )
+  arith,
+  climb_on_map c.args.v c.args.k c.requires.parents_fit c.requires.v_bound c.requires.k_bound c.loop-steps.invariant,
+)
 
 pub loop-steps-preserved : goal.loop-steps-preserved
 loop-steps-preserved c = search (climb-more)

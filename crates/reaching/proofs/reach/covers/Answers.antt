@@ -17,12 +17,12 @@ time_at-second-requires c = omega (arith, entry-inside c.requires.list_fits.1 {j
 
 pub plus-sum-requires : goal.plus-sum-requires
 plus-sum-requires c = omega (
-      arith,
-      c.time_at-first.ensures,
-      c.time_at-second.ensures,
-      (c.requires.list_fits.0.fitting_time c.args.i c.requires.i_bound.0).1,
-      (c.requires.list_fits.1.fitting_time (c.args.j - 1) (omega (arith, c.requires.i_bound.1, c.if-j-eq0.false))).1,
-    )
+  arith,
+  c.time_at-first.ensures,
+  c.time_at-second.ensures,
+  (c.requires.list_fits.0.fitting_time c.args.i c.requires.i_bound.0).1,
+  (c.requires.list_fits.1.fitting_time (c.args.j - 1) (omega (arith, c.requires.i_bound.1, c.if-j-eq0.false))).1,
+)
 
 pub returns : goal.returns
 returns c = covers-decides c.if-j-eq0.false c.time_at-first.ensures c.time_at-second.ensures c.plus-sum.ensures c.at_most.ensures

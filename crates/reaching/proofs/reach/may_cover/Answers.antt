@@ -20,12 +20,12 @@ energy_at-requires-2 c = entry-inside c.requires.1 {j = 0} (omega (arith, c.coun
 
 pub plus-least-requires : goal.plus-least-requires
 plus-least-requires c = omega (
-      arith,
-      c.energy_at.ensures,
-      c.energy_at-2.ensures,
-      (c.requires.0.fitting_energy 0 (omega (arith, c.count_at-near_count.ensures, c.if-near_count-eq0.false))).1,
-      (c.requires.1.fitting_energy 0 (omega (arith, c.count_at-far_count.ensures, c.if-far_count-eq0.false))).1,
-    )
+  arith,
+  c.energy_at.ensures,
+  c.energy_at-2.ensures,
+  (c.requires.0.fitting_energy 0 (omega (arith, c.count_at-near_count.ensures, c.if-near_count-eq0.false))).1,
+  (c.requires.1.fitting_energy 0 (omega (arith, c.count_at-far_count.ensures, c.if-far_count-eq0.false))).1,
+)
 
 pub returns-then-below : goal.returns-then-below
 returns-then-below c = λ q. least-over c.requires.0 c.requires.1 c.energy_at.ensures c.energy_at-2.ensures c.plus-least.ensures c.below.ensures c.if-below.true
@@ -38,12 +38,12 @@ time_at-requires-2 c = omega (arith, entry-inside c.requires.1 {j = c.count_at-f
 
 pub plus-quickest-requires : goal.plus-quickest-requires
 plus-quickest-requires c = omega (
-      arith,
-      c.time_at.ensures,
-      c.time_at-2.ensures,
-      (c.requires.0.fitting_time (c.count_at-near_count.result - 1) (omega (arith, c.count_at-near_count.ensures, c.if-near_count-eq0.false))).1,
-      (c.requires.1.fitting_time (c.count_at-far_count.result - 1) (omega (arith, c.count_at-far_count.ensures, c.if-far_count-eq0.false))).1,
-    )
+  arith,
+  c.time_at.ensures,
+  c.time_at-2.ensures,
+  (c.requires.0.fitting_time (c.count_at-near_count.result - 1) (omega (arith, c.count_at-near_count.ensures, c.if-near_count-eq0.false))).1,
+  (c.requires.1.fitting_time (c.count_at-far_count.result - 1) (omega (arith, c.count_at-far_count.ensures, c.if-far_count-eq0.false))).1,
+)
 
 pub returns : goal.returns
 returns c = λ q. quickest_late c.requires.0 c.requires.1 c.count_at-near_count.ensures c.count_at-far_count.ensures c.time_at.ensures c.time_at-2.ensures c.plus-quickest.ensures c.at_most.ensures q

@@ -8,6 +8,6 @@ use Rattle.replies.proofs.program.first_bytes.Goals as goal
 
 pub returns : goal.returns
 returns c = record {
-      counted = simp length-take (omega arith);
-      is = let all : c.args.count - 0 ≡ c.args.count = omega arith in rw all refl;
-    }
+  counted = simp length-take (omega arith);
+  is = let all : c.args.count - 0 ≡ c.args.count = omega arith in rw all refl;
+}

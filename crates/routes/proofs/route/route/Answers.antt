@@ -37,10 +37,10 @@ loop-here-smaller c = way_less c.requires.prepared.beside.network c.loop-here.in
 
 pub loop-here-preserved : goal.loop-here-preserved
 loop-here-preserved c = (
-      way_more c.requires.prepared.beside.network c.loop-here.invariant.0 c.loop-here-test.true c.step_road-k.ensures.step_road c.other_end-here.ensures.is c.road_pair.ensures
-          c.left_After.ensures,
-      c.step_road-k.ensures.held_2,
-    )
+  way_more c.requires.prepared.beside.network c.loop-here.invariant.0 c.loop-here-test.true c.step_road-k.ensures.step_road c.other_end-here.ensures.is c.road_pair.ensures
+      c.left_After.ensures,
+  c.step_road-k.ensures.held_2,
+)
 
 pub overflow_cast-junctions-2 : goal.overflow_cast-junctions-2
 overflow_cast-junctions-2 c = omega (arith, c.requires.x_bound.1, c.requires.prepared.beside.network.few_junctions)

@@ -23,14 +23,14 @@ energy_at-energy-requires c = search rules
 
 pub loop-j-preserved : goal.loop-j-preserved
 loop-j-preserved c = (
-      omega arith,
-      filling-more _ c.loop-j.invariant.1 (omega arith) c.time_at-time.ensures,
-      filling-more _ c.loop-j.invariant.2 (omega arith) c.energy_at-energy.ensures,
-    )
+  omega arith,
+  filling-more _ c.loop-j.invariant.1 (omega arith) c.time_at-time.ensures,
+  filling-more _ c.loop-j.invariant.2 (omega arith) c.energy_at-energy.ensures,
+)
 
 pub returns : goal.returns
 returns c = record {
-      is = search rules;
-      times_filled = filling_all _ c.loop-j.invariant.1 (omega arith);
-      energies_filled = filling_all _ c.loop-j.invariant.2 (omega arith);
-    }
+  is = search rules;
+  times_filled = filling_all _ c.loop-j.invariant.1 (omega arith);
+  energies_filled = filling_all _ c.loop-j.invariant.2 (omega arith);
+}
