@@ -9,7 +9,6 @@ use lib.Seq.{get_or-set_same, get_or-set_other}
 use Rattle.paths.specs.Forest.{Above}
 use Rattle.network.specs.NetworkFile.{junctions_of}
 use Rattle.forest.specs.LabelFile.{parents_of, list_end}
-use Rattle.stored.specs.Stored.{list_place}
 use Rattle.stored.specs.working.Formed.{ListFits, Formed}
 use Rattle.stored.proofs.Places.{list-takes}
 use Rattle.stored.proofs.Passed.{below_on_map, stored-fits}

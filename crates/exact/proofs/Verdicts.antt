@@ -6,16 +6,13 @@ use mathlib.Core.List.{List}
 use Prim.Native.Nat.{ℕ, ◌+◌, ◌-◌, ◌≤◌, ◌<◌}
 use native.Mathlib.Decide.{ℕ_discrete}
 use native.Mathlib.Omega.{arith}
-use lib.ListN.{get_or}
 use borrow.Author.Tests.{not-true, not-false}
 use Rattle.paths.specs.Forest.{Above}
-use Rattle.paths.proofs.LabelTest.{AllAgree}
-use Rattle.network.specs.NetworkFile.{network_of, junctions_of}
+use Rattle.network.specs.NetworkFile.{junctions_of}
 use Rattle.network.specs.working.Roads.{Grouped}
 use Rattle.refusals.specs.working.Decides.{Decides}
 use Rattle.forest.specs.LabelFile.{parents_of}
 use Rattle.forest.proofs.Forest.{above_at}
-use Rattle.stored.specs.Stored.{stored}
 use Rattle.stored.specs.working.Formed.{FilesFit}
 use Rattle.stored.specs.Right.{EveryListRight}
 use Rattle.stored.proofs.Passed.{below_on_map}

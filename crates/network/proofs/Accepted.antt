@@ -1,14 +1,13 @@
 -- A network file has number 0 exactly if it is marked, of a version that is served, and fits.
 -- In this order: a record, and back; the whole file, and back.
-use mathlib.Core.Path.{◌≡◌, refl}
+use mathlib.Core.Path.{◌≡◌}
 use mathlib.Core.Bool.{true, ◌&&◌}
 use mathlib.Core.List.{List}
-use Prim.Native.Nat.{ℕ, zero, suc, ◌≤◌, ◌<◌}
+use Prim.Native.Nat.{ℕ, ◌≤◌, ◌<◌}
 use native.Mathlib.Omega.{arith}
 use lib.Dec.{leb, ltb}
 use lib.ListN.{length}
 use borrow.Author.Tests.{ltb-true, lt-ltb, leb-true, le-leb, eq-eqb}
-use Rattle.refusals.specs.Order.{decided}
 use Rattle.refusals.proofs.Order.{unless-passed, decided-none, and_both, no_fault, all_pass}
 use Rattle.file_bytes.specs.Bytes.{marked}
 use Rattle.network.specs.declared.versions.Served.{Served}

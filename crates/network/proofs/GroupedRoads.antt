@@ -1,6 +1,6 @@
 -- The table of grouped roads: how it fills, road by road from the last to the first, and what it holds in the end.
 -- In this order: the reads of one road; no road yet; one road more; all roads; the next road; what keeps them grouped.
-use mathlib.Core.Path.{◌≡◌, refl, sym, ◌∙◌}
+use mathlib.Core.Path.{◌≡◌, sym, ◌∙◌}
 use mathlib.Core.Bool.{true}
 use mathlib.Core.List.{List}
 use Prim.Native.Nat.{ℕ, suc, ◌+◌, ◌-◌, ◌*◌, ◌≤◌, ◌<◌}
@@ -10,7 +10,7 @@ use native.Mathlib.Numerals.{add-one}
 use lib.ListN.{length, get_or, set, length-set}
 use lib.Seq.{get_or-set_same, get_or-set_other}
 use Rattle.tables.specs.working.Layout.{firsts_from, nexts_from, order_from, table_places, StaysBelow}
-use Rattle.tables.proofs.Stays.{stays_all, stays_set, stays_then}
+use Rattle.tables.proofs.Stays.{stays_all, stays_set}
 use Rattle.file_bytes.specs.working.Reads.{ReadU16}
 use Rattle.network.specs.NetworkFile.{junctions_of, roads_of, road_low, road_high}
 use Rattle.network.specs.working.Roads.{touches, next_road, Grouped}

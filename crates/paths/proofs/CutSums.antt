@@ -1,6 +1,6 @@
 -- Answers from two lists for each junction of a cut: what a query on labels works out.
 use mathlib.Core.Path.{refl, ap₂, ◌∙◌}
-use mathlib.Core.List.{List, []}
+use mathlib.Core.List.{List}
 use Prim.Native.Nat.{ℕ}
 use Rattle.paths.specs.Figures.{Figures, Lawful}
 use Rattle.paths.specs.Weights.{weights, Within, NotLater}

@@ -7,7 +7,7 @@ use Prim.Native.Nat.{ℕ, ◌+◌, ◌-◌, ◌≤◌, ◌<◌}
 use native.Mathlib.Decide.{dec_le, ℕ_discrete}
 use native.Mathlib.Omega.{arith}
 use lib.Dec.{leb, ltb}
-use lib.ListN.{length, get_or}
+use lib.ListN.{get_or}
 use borrow.Author.Tests.{leb-true, leb-false, ltb-true}
 use Rattle.paths.specs.Weights.{weights, energy, pair, time, spent}
 use Rattle.paths.specs.TradeOff.{IsSum}

@@ -1,14 +1,14 @@
 -- A route is written junction by junction: what stands so far, with any first route of the rest behind it, is the first route of the whole.
 -- In this order: walks on the map; the way so far; its start, its room, one more junction, its end.
-use mathlib.Core.Path.{◌≡◌, refl, sym, ap, ap₂, ◌∙◌}
+use mathlib.Core.Path.{◌≡◌, refl, ap, ap₂, ◌∙◌}
 use mathlib.Core.Logic.{⊎_elim}
 use mathlib.Core.List.Memᴰ
 use mathlib.Core.List.{List, [], ◌∷◌, ◌++◌, Memᴰ}
-use Prim.Native.Nat.{ℕ, zero, suc, ◌+◌, ◌-◌, ◌≤◌, ◌<◌}
+use Prim.Native.Nat.{ℕ, suc, ◌+◌, ◌-◌, ◌≤◌, ◌<◌}
 use native.Mathlib.Omega.{arith}
 use lib.ListN.{length, take, set, length-append, length-set}
 use lib.Seq.{length-take-le, take-suc-set, append_snoc}
-use Rattle.paths.specs.Weights.{weights, energy, pair, Beats}
+use Rattle.paths.specs.Weights.{weights, energy, pair}
 use Rattle.paths.specs.Network.{Walk, stay, go, weight, junctions}
 use Rattle.paths.specs.TradeOff.{Skyline}
 use Rattle.paths.specs.Route.{FirstRoute}

@@ -1,10 +1,10 @@
 -- What it takes that a part of the table stays. In this order: nothing was written; one number more was; two times after each other;
 -- a lower part stays too.
-use mathlib.Core.Path.{◌≡◌, refl, sym, ◌∙◌}
+use mathlib.Core.Path.{refl, ◌∙◌}
 use mathlib.Core.List.{List}
-use Prim.Native.Nat.{ℕ, ◌≤◌, ◌<◌}
+use Prim.Native.Nat.{ℕ, ◌≤◌}
 use native.Mathlib.Omega.{arith}
-use lib.ListN.{length, get_or, set, length-set}
+use lib.ListN.{set, length-set}
 use lib.Seq.{get_or-set_other}
 use Rattle.tables.specs.working.Layout.{StaysBelow}
 

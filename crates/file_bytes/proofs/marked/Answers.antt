@@ -1,5 +1,4 @@
 -- The bytes are tested in the order of the definition, and the first that differs makes it false.
-use borrow.Author.Rules.{rules}
 use borrow.Author.Tests.{eq-eqb, ne_eqb}
 use Rattle.file_bytes.specs.Bytes.{marked}
 use Rattle.file_bytes.proofs.marked.Goals as goal

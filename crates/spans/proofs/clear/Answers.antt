@@ -1,8 +1,5 @@
 -- Each turn clears one second more.
-use Prim.Native.Nat.{◌-◌, ◌≤◌}
 use native.Mathlib.Omega.{arith}
-use Rattle.spans.specs.working.Noting.{Cleared, span_seconds}
-use borrow.Author.Rules.{rules}
 use Rattle.spans.proofs.NotingLaws.{cleared_more}
 use Rattle.spans.proofs.clear.Goals as goal
 

@@ -1,11 +1,6 @@
 -- Every second passed has an energy that is not below the bound.
 use Prim.Native.Nat.{ℕ, ◌-◌, ◌≤◌, ◌<◌}
-use native.Mathlib.Omega.{arith}
-use mathlib.Core.Path.{sym, ◌∙◌}
 use lib.ListN.{get_or}
-use borrow.Author.Tests.{ltb-true, ltb-false}
-use Rattle.spans.proofs.NotingLaws.{sought-more}
-use borrow.Author.Rules.{rules}
 use Rattle.spans.proofs.first_below.Given as goal
 
 abbrev pub invariant-loop-second : goal.invariant-loop-second

@@ -2,7 +2,6 @@
 use mathlib.Core.Path.{refl, sym, ◌∙◌}
 use borrow.Author.Tests.{ltb-true, ltb-false}
 use Rattle.spans.specs.working.Noting.{lowered, kept}
-use borrow.Author.Rules.{rules}
 use Rattle.spans.proofs.lower.Goals as goal
 
 pub returns-then-below : goal.returns-then-below

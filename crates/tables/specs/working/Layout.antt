@@ -1,5 +1,5 @@
 -- Where each part of the lent table begins, and what it means that a part stays.
-use Rattle.std.specs.Prelude.{◌≡◌, List, ℕ, ◌+◌, ◌<◌, length, get_or}
+use Rattle.std.specs.Prelude.{◌≡◌, List, ℕ, ◌<◌, length, get_or}
 
 -- The byte where the lists of junction v start, at v
 abbrev pub starts_from : ℕ

@@ -1,15 +1,11 @@
 -- The lists for the junctions from spot i on agree; a junction that fails is one list that is not right.
 use Rattle.std.proofs.lemmas.Bool.{not_from_false, not_from_true}
 use native.Mathlib.Omega.{arith}
-use borrow.Author.Rules.{rules}
 use borrow.Author.Tests.{not-false}
 use mathlib.Core.Path.{◌≡◌}
-use Prim.Native.Nat.{ℕ, ◌+◌, ◌-◌, ◌≤◌, ◌<◌}
-use Rattle.network.specs.NetworkFile.{junctions_of}
-use Rattle.agree.specs.working.Agreeing.{Unmarked}
-use Rattle.exact.specs.working.Sweep.{Swept}
+use Prim.Native.Nat.{ℕ, ◌+◌, ◌-◌, ◌<◌}
 use Rattle.exact.proofs.Sweeping.{swept_none}
-use Rattle.exact.proofs.Verdicts.{AgreedFrom, from_none, from_more, from-fails, from_all}
+use Rattle.exact.proofs.Verdicts.{from_none, from_more, from-fails, from_all}
 use Rattle.exact.proofs.sweep.exact.Goals as goal
 
 -- one spot less and one more

@@ -1,14 +1,9 @@
 -- The lists for the junctions from spot i on agree; a junction that fails is one list that is not right.
-use native.Mathlib.Omega.{arith}
-use borrow.Author.Rules.{rules}
-use borrow.Author.Tests.{not-false}
-use mathlib.Core.Path.{◌≡◌}
-use Prim.Native.Nat.{ℕ, ◌+◌, ◌-◌, ◌≤◌, ◌<◌}
+use Prim.Native.Nat.{◌≤◌}
 use Rattle.network.specs.NetworkFile.{junctions_of}
 use Rattle.agree.specs.working.Agreeing.{Unmarked}
 use Rattle.exact.specs.working.Sweep.{Swept}
-use Rattle.exact.proofs.Sweeping.{swept_none}
-use Rattle.exact.proofs.Verdicts.{AgreedFrom, from_none, from_more, from-fails, from_all}
+use Rattle.exact.proofs.Verdicts.{AgreedFrom}
 use Rattle.exact.proofs.sweep.exact.Given as goal
 
 abbrev pub invariant-loop-i : goal.invariant-loop-i

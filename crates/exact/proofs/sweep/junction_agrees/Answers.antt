@@ -1,17 +1,13 @@
 -- Before its turn the junctions below u stand at their lists for u; after it, behind them.
-use Rattle.std.proofs.lemmas.Bool.{not_from_false, not_from_true}
 use mathlib.Core.Bool.{false≢true}
 use mathlib.Core.Path.{◌≡◌, refl}
 use mathlib.Core.List.{List}
 use Prim.Native.Nat.{ℕ, ◌<◌}
 use native.Mathlib.Omega.{arith}
 use lib.ListN.{length-set}
-use borrow.Author.Tests.{not-true}
 use Rattle.network.specs.NetworkFile.{junctions_of}
 use Rattle.stored.specs.working.Formed.{FilesFit, Tables}
 use Rattle.preorder.specs.working.Numbered.{junction_at}
-use borrow.Author.Rules.{rules}
-use borrow.Author.Tests.{not-false}
 use Rattle.exact.proofs.Sweeping.{swept_on_map, block_end, block_of, noted-places, swept_alone, swept_moved}
 use Rattle.exact.proofs.Verdicts.{agreed_alone}
 use Rattle.exact.proofs.sweep.junction_agrees.Goals as goal
@@ -22,7 +18,6 @@ on_map :
     FilesFit net labels × Tables net labels depths tables → i < junctions_of labels → u ≡ junction_at tables i → u < junctions_of labels
 on_map input inside u-is = swept_on_map input.0.formed input.1.numbered inside u-is refl
 
-
 pub overflow_add-u : goal.overflow_add-u
 overflow_add-u c = omega (arith, on_map c.requires.files_fit c.requires.i_bound c.entry_at-u.ensures, c.requires.files_fit.0.formed.parents.few_junctions)
 
@@ -31,10 +26,10 @@ entry_at-requires c = omega (arith, on_map c.requires.files_fit c.requires.i_bou
 
 pub overflow_add-to : goal.overflow_add-to
 overflow_add-to c = omega (
-      arith,
-      block_end c.requires.files_fit.0.formed c.requires.files_fit.1.numbered c.requires.i_bound c.entry_at-u.ensures c.entry_at.ensures,
-      c.requires.files_fit.0.formed.parents.few_junctions,
-    )
+  arith,
+  block_end c.requires.files_fit.0.formed c.requires.files_fit.1.numbered c.requires.i_bound c.entry_at-u.ensures c.entry_at.ensures,
+  c.requires.files_fit.0.formed.parents.few_junctions,
+)
 
 pub overflow_add-places : goal.overflow_add-places
 overflow_add-places c = omega (arith, on_map c.requires.files_fit c.requires.i_bound c.entry_at-u.ensures, c.requires.files_fit.0.formed.parents.few_junctions)
@@ -52,38 +47,50 @@ pub bounds-places-u : goal.bounds-places-u
 bounds-places-u c = omega (arith, on_map c.requires.files_fit c.requires.i_bound c.entry_at-u.ensures, c.requires.files_fit.0.formed.parents.few_junctions)
 
 pub returns-then-from-to : goal.returns-then-from-to
-returns-then-from-to c = record { decides = rw (← c.entry_at-u.ensures) (agreed_alone (block_of c.requires.files_fit.0.formed c.requires.files_fit.1.numbered c.requires.i_bound c.entry_at-u.ensures c.entry_at.ensures) c.if-from-to.true); swept_2 = λ e. (swept_alone c.requires.files_fit.0.formed c.requires.files_fit.1.numbered c.requires.i_bound c.entry_at-u.ensures c.entry_at.ensures c.requires.swept c.requires.files_fit.1.starts_filled c.if-from-to.true, c.requires.unmarked), }
+returns-then-from-to c = record {
+  decides = rw (← c.entry_at-u.ensures)
+      (agreed_alone (block_of c.requires.files_fit.0.formed c.requires.files_fit.1.numbered c.requires.i_bound c.entry_at-u.ensures c.entry_at.ensures) c.if-from-to.true);
+  swept_2 = λ e. (
+    swept_alone c.requires.files_fit.0.formed c.requires.files_fit.1.numbered c.requires.i_bound c.entry_at-u.ensures c.entry_at.ensures c.requires.swept c.requires.files_fit.1.starts_filled c.if-from-to.true,
+    c.requires.unmarked,
+  );
+}
 
 pub note_above-requires : goal.note_above-requires
-note_above-requires c = (
-      c.requires.files_fit.0.formed,
-      (c.requires.files_fit.1.depths_filled, (c.requires.files_fit.1.starts_filled, (on_map c.requires.files_fit c.requires.i_bound c.entry_at-u.ensures, simp length-set c.requires.swept.places_length))),
-    )
+note_above-requires c = record {
+  formed = c.requires.files_fit.0.formed;
+  depths_filled = c.requires.files_fit.1.depths_filled;
+  starts_filled = c.requires.files_fit.1.starts_filled;
+  u_bound = on_map c.requires.files_fit c.requires.i_bound c.entry_at-u.ensures;
+  places_len = simp length-set c.requires.swept.places_length;
+}
 
 pub lists_agree-requires : goal.lists_agree-requires
-lists_agree-requires c = (
-      (c.requires.files_fit.0, c.requires.files_fit.1.grouped),
-      (
-        block_of c.requires.files_fit.0.formed c.requires.files_fit.1.numbered c.requires.i_bound c.entry_at-u.ensures c.entry_at.ensures,
-        (noted-places c.requires.files_fit.0.formed c.requires.files_fit.1.numbered c.requires.i_bound c.entry_at-u.ensures c.entry_at.ensures c.requires.swept _ c.note-above.ensures, c.requires.unmarked),
-      ),
-    )
+lists_agree-requires c = record {
+  files_fit = (c.requires.files_fit.0, c.requires.files_fit.1.grouped);
+  block_of = block_of c.requires.files_fit.0.formed c.requires.files_fit.1.numbered c.requires.i_bound c.entry_at-u.ensures c.entry_at.ensures;
+  places_for = noted-places c.requires.files_fit.0.formed c.requires.files_fit.1.numbered c.requires.i_bound c.entry_at-u.ensures c.entry_at.ensures c.requires.swept _ c.note_above.ensures;
+  unmarked = c.requires.unmarked;
+}
 
 pub returns-then-not-lists_agree : goal.returns-then-not-lists_agree
-returns-then-not-lists_agree c = let failed = not-true _ (not_from_false _ c.if-not-lists_agree.true) in
-    record { decides = rw (← c.entry_at-u.ensures, ← failed) c.lists_agree.ensures.decides; swept_2 = λ e. absurd (false≢true e) }
+returns-then-not-lists_agree c = record {
+  decides = rw (← c.entry_at-u.ensures, ← c.if-not-lists_agree.true) c.lists_agree.ensures.decides;
+  swept_2 = λ e. absurd (false≢true e);
+}
 
 pub move_on-requires : goal.move_on-requires
-move_on-requires c = (
-      c.requires.files_fit.0.formed,
-      (
-        block_of c.requires.files_fit.0.formed c.requires.files_fit.1.numbered c.requires.i_bound c.entry_at-u.ensures c.entry_at.ensures,
-        noted-places c.requires.files_fit.0.formed c.requires.files_fit.1.numbered c.requires.i_bound c.entry_at-u.ensures c.entry_at.ensures c.requires.swept _ c.note-above.ensures,
-      ),
-    )
+move_on-requires c = record {
+  formed = c.requires.files_fit.0.formed;
+  block_of = block_of c.requires.files_fit.0.formed c.requires.files_fit.1.numbered c.requires.i_bound c.entry_at-u.ensures c.entry_at.ensures;
+  places_for = noted-places c.requires.files_fit.0.formed c.requires.files_fit.1.numbered c.requires.i_bound c.entry_at-u.ensures c.entry_at.ensures c.requires.swept _ c.note_above.ensures;
+}
 
 pub returns : goal.returns
-returns c = let passed = not-false _ (not_from_true _ c.if-not-lists_agree.false) in record { decides = rw (← c.entry_at-u.ensures, ← passed) c.lists_agree.ensures.decides; swept_2 = λ e. (
-        swept_moved c.requires.files_fit.0.formed c.requires.files_fit.1.numbered c.requires.i_bound c.entry_at-u.ensures c.entry_at.ensures c.requires.swept c.requires.files_fit.1.starts_filled c.note-above.ensures c.move_on.ensures,
-        c.lists_agree.ensures.unmarked_2 passed,
-      ), }
+returns c = record {
+  decides = rw (← c.entry_at-u.ensures, ← c.if-not-lists_agree.false) c.lists_agree.ensures.decides;
+  swept_2 = λ e. (
+    swept_moved c.requires.files_fit.0.formed c.requires.files_fit.1.numbered c.requires.i_bound c.entry_at-u.ensures c.entry_at.ensures c.requires.swept c.requires.files_fit.1.starts_filled c.note_above.ensures c.move_on.ensures,
+    c.lists_agree.ensures.unmarked_2 c.if-not-lists_agree.false,
+  );
+}

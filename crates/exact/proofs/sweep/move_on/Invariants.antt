@@ -1,8 +1,6 @@
 -- Each turn moves one junction on.
 use Prim.Native.Nat.{◌-◌, ◌≤◌}
-use native.Mathlib.Omega.{arith}
-use borrow.Author.Rules.{rules}
-use Rattle.exact.proofs.Moving.{Moving, moving_none, here_on_map, place_inside, next-inside, moving_more, moving_all}
+use Rattle.exact.proofs.Moving.{Moving}
 use Rattle.exact.proofs.sweep.move_on.Given as goal
 
 abbrev pub invariant-loop-spot : goal.invariant-loop-spot

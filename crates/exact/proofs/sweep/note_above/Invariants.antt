@@ -1,7 +1,5 @@
 -- Each turn notes the list for the next ancestor, and the list behind it is for the one above.
-use native.Mathlib.Omega.{arith}
-use borrow.Author.Rules.{rules}
-use Rattle.exact.proofs.Noting.{Noting, noting_none, reached-inside, here-inside, next_on_map, noting_more, noting_all}
+use Rattle.exact.proofs.Noting.{Noting}
 use Rattle.exact.proofs.sweep.note_above.Given as goal
 
 abbrev pub invariant-loop-k : goal.invariant-loop-k

@@ -1,7 +1,6 @@
 -- The tests are the definition's, in its order.
 use native.Mathlib.Omega.{arith}
 use Rattle.files.proofs.FormTests.{header-short, header_huge, header_unmarked, header_unserved, header-passes}
-use borrow.Author.Rules.{rules}
 use Rattle.files.proofs.form.header_form.Goals as goal
 
 pub returns-then-labels-lt-HEADER_BYTES : goal.returns-then-labels-lt-HEADER_BYTES

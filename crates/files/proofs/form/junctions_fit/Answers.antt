@@ -1,6 +1,5 @@
 -- The two tests are those of `junctions_fit`, in its order.
 use Rattle.files.proofs.FormTests.{junctions-none, junctions-some}
-use borrow.Author.Rules.{rules}
 use Rattle.files.proofs.form.junctions_fit.Goals as goal
 
 pub returns-then-n-lt1 : goal.returns-then-n-lt1

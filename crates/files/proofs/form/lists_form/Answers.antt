@@ -1,6 +1,5 @@
 -- A fault of the lists decides; behind the last list the file ends, and its header has counted all entries.
 use Rattle.files.proofs.FormTests.{lists-fault, lists-bytes-left, lists-entries, lists_pass}
-use borrow.Author.Rules.{rules}
 use Rattle.files.proofs.form.lists_form.Goals as goal
 
 pub returns-then-number-ne0 : goal.returns-then-number-ne0

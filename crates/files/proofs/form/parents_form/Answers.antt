@@ -1,6 +1,5 @@
 -- Parents that stand whole are tested by `fill_depths`, and one that fails gives 15.
 use Rattle.files.proofs.FormTests.{parents_cut, parents_misfit, parents_pass_lem}
-use borrow.Author.Rules.{rules}
 use Rattle.files.proofs.form.parents_form.Goals as goal
 
 pub returns-then-labels-lists_from : goal.returns-then-labels-lists_from

@@ -1,6 +1,5 @@
 -- The two tests are those of `same_network`, in its order.
 use Rattle.files.proofs.FormTests.{other-size, same_size}
-use borrow.Author.Rules.{rules}
 use Rattle.files.proofs.form.same_network.Goals as goal
 
 pub returns-then-n-junctions : goal.returns-then-n-junctions

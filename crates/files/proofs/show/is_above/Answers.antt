@@ -1,6 +1,5 @@
 -- An ancestor other than v itself is a proper one.
 use Rattle.files.proofs.ShowLaws.{above-itself, above_other}
-use borrow.Author.Rules.{rules}
 use Rattle.files.proofs.show.is_above.Goals as goal
 
 pub returns-then-u-v : goal.returns-then-u-v

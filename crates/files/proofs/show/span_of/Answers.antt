@@ -1,7 +1,6 @@
 -- Labels that are refused show nothing, and those that passed have their tables filled.
 use mathlib.Core.Path.{sym, ◌∙◌}
 use Rattle.files.proofs.ShowLaws.{alone_one, span_refused}
-use borrow.Author.Rules.{rules}
 use Rattle.files.proofs.show.span_of.Goals as goal
 
 pub returns-then-number-ne0 : goal.returns-then-number-ne0

@@ -1,7 +1,6 @@
 -- Each walk leaves what is known right.
 use Prim.Native.Nat.{◌-◌}
 use Rattle.forest.specs.working.ParentsRead.{FeetRight}
-use borrow.Author.Rules.{rules}
 use Rattle.forest.proofs.feet.fill_feet.Given as goal
 
 abbrev pub invariant-loop-v : goal.invariant-loop-v

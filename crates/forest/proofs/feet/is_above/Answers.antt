@@ -1,7 +1,5 @@
 -- Each step up leaves open whether u is above, until one foot or the depth of u tells.
-use Rattle.forest.specs.Forest.{depth_of}
-use Rattle.forest.proofs.OneChain.{Lifting, lifting_meets, lifting_end, lifting_more, lifting_less}
-use borrow.Author.Rules.{rules}
+use Rattle.forest.proofs.OneChain.{lifting_meets, lifting_end, lifting_more, lifting_less}
 use Rattle.forest.proofs.feet.is_above.Goals as goal
 
 pub returns-then-one_foot : goal.returns-then-one_foot

@@ -1,7 +1,6 @@
 -- A note is no junction, and leaves what is known right.
 use native.Mathlib.Omega.{arith}
 use Rattle.forest.proofs.OneChain.{feet_noted}
-use borrow.Author.Rules.{rules}
 use Rattle.forest.proofs.feet.note_child.Goals as goal
 
 pub returns : goal.returns

@@ -2,7 +2,6 @@
 use mathlib.Core.Bool.{false≢true}
 use native.Mathlib.Omega.{arith}
 use borrow.Author.Tests.{eqb-true}
-use borrow.Author.Rules.{rules}
 use Rattle.forest.proofs.feet.one_foot.Goals as goal
 
 pub returns-then-foot-n : goal.returns-then-foot-n

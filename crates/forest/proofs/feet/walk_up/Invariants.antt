@@ -1,9 +1,6 @@
 -- Each junction on the way up is above v, and less deep than the one before.
-use mathlib.Core.Path.{refl}
-use native.Mathlib.Omega.{arith}
 use Rattle.forest.specs.Forest.{depth_of}
-use Rattle.forest.proofs.OneChain.{Walking, walking_start, walking_stored, walking_more, walking_less}
-use borrow.Author.Rules.{rules}
+use Rattle.forest.proofs.OneChain.{Walking}
 use Rattle.forest.proofs.feet.walk_up.Given as goal
 
 abbrev pub invariant-loop-feet : goal.invariant-loop-feet

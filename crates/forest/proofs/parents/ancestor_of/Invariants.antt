@@ -1,8 +1,6 @@
 -- The loop is at the ancestor that it has climbed to, and stops at the k-th.
-use native.Mathlib.Omega.{arith}
 use Prim.Native.Nat.{◌-◌}
-use Rattle.forest.proofs.ParentLoops.{Climb, climb-start, climb-more, climb_on_map, climb_end}
-use borrow.Author.Rules.{rules}
+use Rattle.forest.proofs.ParentLoops.{Climb}
 use Rattle.forest.proofs.parents.ancestor_of.Given as goal
 
 abbrev pub invariant-loop-steps : goal.invariant-loop-steps

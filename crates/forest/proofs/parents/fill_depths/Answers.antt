@@ -1,6 +1,5 @@
 -- The loop has settled every junction below v; a parent that does not fit and a chain that returns fail.
-use Prim.Native.Nat.{◌-◌}
-use Rattle.forest.proofs.ParentLoops.{Filling, tested_misfit, can_climb, filling-start, filling-returns, filling-more, filling_end}
+use Rattle.forest.proofs.ParentLoops.{tested_misfit, can_climb, filling-start, filling-returns, filling-more, filling_end}
 use borrow.Author.Rules.{rules}
 use Rattle.forest.proofs.parents.fill_depths.Goals as goal
 

@@ -1,6 +1,5 @@
 -- The loop has written n at every place below v.
-use Prim.Native.Nat.{◌-◌}
-use Rattle.forest.proofs.ParentLoops.{Forgetting, forgetting_start, forgetting_more, forgetting_end}
+use Rattle.forest.proofs.ParentLoops.{forgetting_start, forgetting_more, forgetting_end}
 use borrow.Author.Rules.{rules}
 use Rattle.forest.proofs.parents.forget_depths.Goals as goal
 

@@ -1,7 +1,6 @@
 -- The loop has written n at every place below v.
 use Prim.Native.Nat.{◌-◌}
-use Rattle.forest.proofs.ParentLoops.{Forgetting, forgetting_start, forgetting_more, forgetting_end}
-use borrow.Author.Rules.{rules}
+use Rattle.forest.proofs.ParentLoops.{Forgetting}
 use Rattle.forest.proofs.parents.forget_depths.Given as goal
 
 abbrev pub invariant-loop-v : goal.invariant-loop-v

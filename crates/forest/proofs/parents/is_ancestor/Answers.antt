@@ -1,7 +1,6 @@
 -- An ancestor of v stands as many steps above it as their depths differ by, and a deeper junction is none.
 use native.Mathlib.Omega.{arith}
 use Rattle.forest.proofs.ParentLoops.{depths_small, deeper_is_none, climb-fits, climb_tells}
-use borrow.Author.Rules.{rules}
 use Rattle.forest.proofs.parents.is_ancestor.Goals as goal
 
 pub returns-then-below-above : goal.returns-then-below-above

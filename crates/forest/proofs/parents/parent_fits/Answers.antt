@@ -1,6 +1,5 @@
 -- The two tests are those of `parent_fits`, in its order.
 use Rattle.forest.proofs.ParentLoops.{fits-junction, fits-beyond}
-use borrow.Author.Rules.{rules}
 use Rattle.forest.proofs.parents.parent_fits.Goals as goal
 
 pub returns-then-parent-n : goal.returns-then-parent-n

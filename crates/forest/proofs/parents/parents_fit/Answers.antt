@@ -1,11 +1,7 @@
 -- The loop has passed every parent below v, and one that does not fit fails all.
 use Rattle.std.proofs.lemmas.Bool.{not_from_false, not_from_true}
 use native.Mathlib.Omega.{arith}
-use Rattle.forest.proofs.ParentLoops.{Passing, passing_start, passing_more, passing_fails, passing_end}
-use Prim.Native.Nat.{◌-◌}
-use Rattle.network.specs.NetworkFile.{junctions_of}
-use Rattle.forest.specs.Forest.{parent_fits}
-use borrow.Author.Rules.{rules}
+use Rattle.forest.proofs.ParentLoops.{passing_start, passing_more, passing_fails, passing_end}
 use Rattle.forest.proofs.parents.parents_fit.Goals as goal
 
 pub loop-v-init : goal.loop-v-init

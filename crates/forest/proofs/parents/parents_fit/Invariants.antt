@@ -1,10 +1,8 @@
 -- The loop has passed every parent below v, and one that does not fit fails all.
-use native.Mathlib.Omega.{arith}
-use Rattle.forest.proofs.ParentLoops.{Passing, passing_start, passing_more, passing_fails, passing_end}
+use Rattle.forest.proofs.ParentLoops.{Passing}
 use Prim.Native.Nat.{◌-◌}
 use Rattle.network.specs.NetworkFile.{junctions_of}
 use Rattle.forest.specs.Forest.{parent_fits}
-use borrow.Author.Rules.{rules}
 use Rattle.forest.proofs.parents.parents_fit.Given as goal
 
 abbrev pub invariant-loop-v : goal.invariant-loop-v

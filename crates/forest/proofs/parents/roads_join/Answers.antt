@@ -1,10 +1,7 @@
 -- The loop has passed every road below k, and one that does not join fails all.
 use Rattle.std.proofs.lemmas.Bool.{not_from_false, not_from_true}
-use Prim.Native.Nat.{◌-◌}
 use native.Mathlib.Omega.{arith}
-use Rattle.network.specs.NetworkFile.{roads_of}
-use Rattle.forest.specs.Forest.{road_joins}
-use Rattle.forest.proofs.ParentLoops.{Passing, passing_start, passing_more, passing_fails, passing_end}
+use Rattle.forest.proofs.ParentLoops.{passing_start, passing_more, passing_fails, passing_end}
 use Rattle.forest.proofs.OneChain.{feet_none}
 use borrow.Author.Rules.{rules}
 use Rattle.forest.proofs.parents.roads_join.Goals as goal

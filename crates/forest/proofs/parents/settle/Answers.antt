@@ -1,7 +1,6 @@
 -- A depth that is known or found below n is the depth of v, and one found at n or beyond says that the chain returns.
 use native.Mathlib.Omega.{arith}
 use Rattle.forest.proofs.ParentLoops.{settled_known, settled_returns, settled_written}
-use borrow.Author.Rules.{rules}
 use Rattle.forest.proofs.parents.settle.Goals as goal
 
 pub returns-then-depths-v : goal.returns-then-depths-v

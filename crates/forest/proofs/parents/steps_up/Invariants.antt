@@ -1,7 +1,6 @@
 -- The steps so far and those left make up the depth; at a root none is left, after n none is counted, and where the depth is known it tells them.
 use Prim.Native.Nat.{◌-◌}
-use Rattle.forest.proofs.ParentLoops.{Climbing, climbing_start, climbing_more, climbing_root, climbing_end, climbing_known}
-use borrow.Author.Rules.{rules}
+use Rattle.forest.proofs.ParentLoops.{Climbing}
 use Rattle.forest.proofs.parents.steps_up.Given as goal
 
 abbrev pub invariant-loop-steps : goal.invariant-loop-steps

@@ -1,8 +1,5 @@
 -- The parent of a junction at depth `left` is at depth `left` - 1, so each depth is written right.
-use Prim.Native.Nat.{◌-◌}
-use native.Mathlib.Omega.{arith}
-use Rattle.forest.proofs.ParentLoops.{Writing, writing_start, writing_done, parent_above, writing_more}
-use borrow.Author.Rules.{rules}
+use Rattle.forest.proofs.ParentLoops.{Writing}
 use Rattle.forest.proofs.parents.write_depths.Given as goal
 
 abbrev pub invariant-loop-left : goal.invariant-loop-left

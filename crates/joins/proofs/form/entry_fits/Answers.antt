@@ -2,7 +2,6 @@
 use Rattle.std.proofs.lemmas.Bool.{not_from_false, not_from_true}
 use Rattle.joins.proofs.Rules.{fits_not_time, fits_not_energy, fits-order}
 use Rattle.lists.proofs.Tests.{test-fails, test-holds}
-use borrow.Author.Rules.{rules}
 use Rattle.joins.proofs.form.entry_fits.Goals as goal
 
 pub returns-then-not-at_most : goal.returns-then-not-at_most

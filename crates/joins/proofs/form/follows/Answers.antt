@@ -1,6 +1,5 @@
 -- The first entry follows nothing; any other has the energy before it below its own, and its time below the time before it.
 use Rattle.joins.proofs.Rules.{follows-time, follows_not}
-use borrow.Author.Rules.{rules}
 use Rattle.joins.proofs.form.follows.Goals as goal
 
 pub returns-then-below : goal.returns-then-below

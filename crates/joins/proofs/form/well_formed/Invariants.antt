@@ -1,15 +1,10 @@
 -- The list is short enough, and the loop's invariant says that every entry below i fits; the measure is what is left of the length.
-use Rattle.joins.proofs.Rules.{formed-long, formed_not, formed_all}
 use Rattle.joins.specs.Form.{entry_fits}
-use Rattle.refusals.proofs.Order.{every-none, every_more}
 use Rattle.refusals.specs.Order.{every}
-use native.Mathlib.Omega.{arith}
 use lib.ListN.{length}
 use Prim.Native.Nat.{◌≤◌, ◌-◌}
 use mathlib.Core.Bool.{true}
 use mathlib.Core.Path.{◌≡◌}
-use Rattle.lists.proofs.Tests.{test-fails, test-holds}
-use borrow.Author.Rules.{rules}
 use Rattle.joins.proofs.form.well_formed.Given as goal
 
 abbrev pub invariant-loop-i : goal.invariant-loop-i

@@ -3,7 +3,6 @@ use Rattle.joins.proofs.SumAnswers.{passed-lists, answer_refused, answer_over, a
 use Rattle.joins.proofs.Rules.{both_pass}
 use Rattle.lists.proofs.Entries.{places_at}
 use native.Mathlib.Omega.{arith}
-use borrow.Author.Rules.{rules}
 use Rattle.joins.proofs.limited.limited_join.Goals as goal
 
 pub returns-then-number-eq41 : goal.returns-then-number-eq41

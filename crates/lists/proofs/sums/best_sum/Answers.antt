@@ -1,11 +1,9 @@
 -- The loop's invariant says what is known after i entries of the first list: their best sum, and that beside a later entry none of the second list from j on fits.
-use Rattle.lists.proofs.Walk.{Walked, energies_add, fit_whole, walk-empty, walk-nothing, walk_starts, walk-fits, walk_more, walk-stops, walk_ends}
-use mathlib.Core.Logic.{⊎_elim, inl, inr}
+use Rattle.lists.proofs.Walk.{energies_add, fit_whole, walk-empty, walk-nothing, walk_starts, walk-fits, walk_more, walk-stops, walk_ends}
+use mathlib.Core.Logic.{inl, inr}
 use native.Mathlib.Omega.{arith}
-use lib.ListN.{length}
-use Prim.Native.Nat.{◌-◌}
-use borrow.Author.Rules.{rules}
 use Rattle.lists.proofs.sums.best_sum.Goals as goal
+use Rattle.lists.proofs.sums.best_sum.Goals.{then-comes_before, else-comes_before}
 
 pub returns-then-times-eq0 : goal.returns-then-times-eq0
 returns-then-times-eq0 c = walk-empty c.requires.list c.requires.list_2 c.if-times-eq0.true
@@ -31,11 +29,8 @@ returns-then-j-eq0-2 c = walk-stops c.requires.list c.requires.list_2 c.loop-i.i
 pub sum_at-candidate-requires : goal.sum_at-candidate-requires
 sum_at-candidate-requires c = record { list = c.requires.list; list_2 = c.requires.list_2; i_in_bounds = omega arith; j_in_bounds = omega (arith, c.requires.list_2.one_length, c.fitting-j-in-loop-i.ensures.upper_bound, c.loop-i.invariant.fits_in_list) }
 
-pub overflow_add-i : goal.overflow_add-i
-overflow_add-i c = omega (arith, c.loop-i-test.true, c.well_formed.0.0)
-
 pub loop-i-preserved : goal.loop-i-preserved
-loop-i-preserved c = walk_more c.requires.list c.requires.list_2 c.loop-i.invariant c.loop-i-test.true (walk-fits c.requires.list c.requires.list_2 c.loop-i.invariant c.loop-i-test.true c.fitting-j-in-loop-i.ensures.upper_bound c.fitting-j-in-loop-i.ensures.by_index_2 c.fitting-j-in-loop-i.ensures.result_bound) (omega (arith, c.if-j-eq0-2.false)) (record { first_is = c.sum_at-candidate.ensures.first_value; second_is = c.sum_at-candidate.ensures.second_value; weighs = c.sum_at-candidate.ensures.energy_value }) c.comes_before.ensures (⊎_elim (λ m. inl (m.0.taken, m.1)) (λ m. inr (m.0.left, m.1)) c.if-comes_before.branch)
+loop-i-preserved c = walk_more c.requires.list c.requires.list_2 c.loop-i.invariant c.loop-i-test.true (walk-fits c.requires.list c.requires.list_2 c.loop-i.invariant c.loop-i-test.true c.fitting-j-in-loop-i.ensures.upper_bound c.fitting-j-in-loop-i.ensures.by_index_2 c.fitting-j-in-loop-i.ensures.result_bound) (omega (arith, c.if-j-eq0-2.false)) (record { first_is = c.sum_at-candidate.ensures.first_value; second_is = c.sum_at-candidate.ensures.second_value; weighs = c.sum_at-candidate.ensures.energy_value }) c.comes_before.ensures (elim c.if-comes_before.branch [ then-comes_before w ↦ inl (w.if-comes_before.true, w.best-is) | else-comes_before w ↦ inr (w.if-comes_before.false, w.best-is) ])
 
 pub returns : goal.returns
 returns c = walk_ends c.requires.list c.requires.list_2 c.loop-i.invariant (omega arith)

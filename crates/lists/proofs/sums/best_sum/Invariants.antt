@@ -1,10 +1,7 @@
 -- The loop's invariant says what is known after i entries of the first list: their best sum, and that beside a later entry none of the second list from j on fits.
-use Rattle.lists.proofs.Walk.{Walked, energies_add, fit_whole, walk-empty, walk-nothing, walk_starts, walk-fits, walk_more, walk-stops, walk_ends}
-use mathlib.Core.Logic.{⊎_elim, inl, inr}
-use native.Mathlib.Omega.{arith}
+use Rattle.lists.proofs.Walk.{Walked}
 use lib.ListN.{length}
 use Prim.Native.Nat.{◌-◌}
-use borrow.Author.Rules.{rules}
 use Rattle.lists.proofs.sums.best_sum.Given as goal
 
 abbrev pub invariant-loop-i : goal.invariant-loop-i

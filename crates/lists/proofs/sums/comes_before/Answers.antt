@@ -1,6 +1,5 @@
 -- Less time decides, and equal times are decided by less energy.
 use Rattle.lists.proofs.Walk.{compared_quicker, compared_slower, compared_cheaper}
-use borrow.Author.Rules.{rules}
 use Rattle.lists.proofs.sums.comes_before.Goals as goal
 
 pub returns-then-below : goal.returns-then-below

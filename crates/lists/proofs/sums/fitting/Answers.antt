@@ -1,9 +1,8 @@
 -- The loop's invariant says that no entry from j up to the start fits; the last before j that fits stops it.
 use Rattle.std.proofs.lemmas.Bool.{not_from_false, not_from_true}
-use Rattle.lists.proofs.Walk.{NoneFrom, none_from_more, fits-here}
+use Rattle.lists.proofs.Walk.{none_from_more, fits-here}
 use native.Mathlib.Omega.{arith}
 use Prim.Native.Nat.{◌-◌}
-use borrow.Author.Rules.{rules}
 use Rattle.lists.proofs.sums.fitting.Goals as goal
 
 pub plus-sum-requires : goal.plus-sum-requires

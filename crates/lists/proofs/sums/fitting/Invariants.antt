@@ -1,8 +1,5 @@
 -- The loop's invariant says that no entry from j up to the start fits; the last before j that fits stops it.
-use Rattle.lists.proofs.Walk.{NoneFrom, none_from_more, fits-here}
-use native.Mathlib.Omega.{arith}
-use Prim.Native.Nat.{◌-◌}
-use borrow.Author.Rules.{rules}
+use Rattle.lists.proofs.Walk.{NoneFrom}
 use Rattle.lists.proofs.sums.fitting.Given as goal
 
 abbrev pub invariant-loop-j : goal.invariant-loop-j

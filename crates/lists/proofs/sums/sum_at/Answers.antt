@@ -2,7 +2,6 @@
 use Rattle.lists.proofs.Walk.{time-adds, energy-adds, pair_is}
 use native.Mathlib.Omega.{arith}
 use mathlib.Core.Path.{refl}
-use borrow.Author.Rules.{rules}
 use Rattle.lists.proofs.sums.sum_at.Goals as goal
 
 pub plus-requires : goal.plus-requires

@@ -1,9 +1,6 @@
 -- Every entry before the count is within the limit; the first that is not, or the end, stops it.
-use Rattle.lists.proofs.Leading.{Passed, passed-more, passed-stops}
+use Rattle.lists.proofs.Leading.{passed-more, passed-stops}
 use native.Mathlib.Omega.{arith}
-use lib.ListN.{length}
-use Prim.Native.Nat.{◌-◌}
-use borrow.Author.Rules.{rules}
 use Rattle.lists.proofs.within.within.Goals as goal
 
 pub returns-then-below : goal.returns-then-below

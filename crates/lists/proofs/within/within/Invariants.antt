@@ -1,9 +1,7 @@
 -- Every entry before the count is within the limit; the first that is not, or the end, stops it.
-use Rattle.lists.proofs.Leading.{Passed, passed-more, passed-stops}
-use native.Mathlib.Omega.{arith}
+use Rattle.lists.proofs.Leading.{Passed}
 use lib.ListN.{length}
 use Prim.Native.Nat.{◌-◌}
-use borrow.Author.Rules.{rules}
 use Rattle.lists.proofs.within.within.Given as goal
 
 abbrev pub invariant-loop-count : goal.invariant-loop-count

@@ -1,6 +1,5 @@
 -- The tests are the definition's, in its order.
 use Rattle.network.proofs.NetworkTests.{ends_crossed, end_off_map, ends_on_map}
-use borrow.Author.Rules.{rules}
 use Rattle.network.proofs.network.ends_fit.Goals as goal
 
 pub returns-then-low-high : goal.returns-then-low-high

@@ -1,6 +1,5 @@
 -- The tests are the definition's, in its order.
 use Rattle.network.proofs.NetworkTests.{figures_no_time, figures_energy}
-use borrow.Author.Rules.{rules}
 use Rattle.network.proofs.network.figures_fit.Goals as goal
 
 pub returns-then-not-at_most : goal.returns-then-not-at_most

@@ -1,6 +1,5 @@
 -- The tests are the definition's, in its order; 32 bits of roads times 8 do not wrap 64.
 use Rattle.network.proofs.NetworkTests.{header-short, header_unmarked, header_unserved, header_sizes, header_not_whole, header-passes}
-use borrow.Author.Rules.{rules}
 use Rattle.network.proofs.network.header_number.Goals as goal
 
 pub returns-then-net-lt-HEADER_BYTES : goal.returns-then-net-lt-HEADER_BYTES

@@ -1,6 +1,5 @@
 -- A header that is refused decides; one that passed has room for its records, and they decide.
 use Rattle.network.proofs.NetworkTests.{refused_by_header, roads_readable, records_readable, records-decide}
-use borrow.Author.Rules.{rules}
 use Rattle.network.proofs.network.net_number.Goals as goal
 
 pub returns-then-refused-ne0 : goal.returns-then-refused-ne0

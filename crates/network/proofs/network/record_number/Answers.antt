@@ -1,6 +1,5 @@
 -- 5 is tested before 6, as the definition has it.
 use Rattle.network.proofs.NetworkTests.{record-ends, record_figures, record-passes}
-use borrow.Author.Rules.{rules}
 use Rattle.network.proofs.network.record_number.Goals as goal
 
 pub returns-then-not-ends_fit : goal.returns-then-not-ends_fit

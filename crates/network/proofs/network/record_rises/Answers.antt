@@ -1,6 +1,5 @@
 -- The record before k is k - 1, and the tests are the definition's for a k that is not 0.
 use Rattle.network.proofs.NetworkTests.{rises_low, falls_low, same_low}
-use borrow.Author.Rules.{rules}
 use Rattle.network.proofs.network.record_rises.Goals as goal
 
 pub returns-then-low_before-low : goal.returns-then-low_before-low

@@ -1,8 +1,7 @@
 -- The invariant: the first fault of all records is the first fault of those from k on.
 use Prim.Native.Nat.{◌-◌}
 use Rattle.network.specs.NetworkNumber.{record_number}
-use Rattle.refusals.proofs.FaultLoop.{FaultsLeft, faults_start, faults_here, faults_more, faults_end}
-use borrow.Author.Rules.{rules}
+use Rattle.refusals.proofs.FaultLoop.{FaultsLeft}
 use Rattle.network.proofs.network.records_number.Given as goal
 
 abbrev pub invariant-loop-k : goal.invariant-loop-k

@@ -1,6 +1,5 @@
 -- The tests are the definition's, in its order.
 use Rattle.network.proofs.NetworkTests.{sizes_none, sizes_many, sizes_roads}
-use borrow.Author.Rules.{rules}
 use Rattle.network.proofs.network.sizes_fit.Goals as goal
 
 pub returns-then-junctions-lt1 : goal.returns-then-junctions-lt1

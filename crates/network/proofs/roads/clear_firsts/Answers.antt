@@ -1,9 +1,6 @@
 -- The loop has set the first road of every junction below v, and ends when v is 1,024.
-use Prim.Native.Nat.{◌≤◌, ◌-◌}
 use native.Mathlib.Omega.{arith}
-use Rattle.network.specs.working.RoadsRead.{FirstsFilled}
 use Rattle.network.proofs.GroupedRoads.{filled_none, filled_more, filled_end}
-use borrow.Author.Rules.{rules}
 use Rattle.network.proofs.roads.clear_firsts.Goals as goal
 
 pub loop-v-init : goal.loop-v-init

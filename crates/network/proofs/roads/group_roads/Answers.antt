@@ -1,12 +1,8 @@
 -- When the loop stands at k, the roads from k on are grouped: none at first, one more with each turn, all at 0.
-use Prim.Native.Nat.{◌≤◌}
 use native.Mathlib.Omega.{arith}
-use Rattle.tables.specs.working.Layout.{firsts_from, StaysBelow}
+use Rattle.tables.specs.working.Layout.{firsts_from}
 use Rattle.tables.proofs.Stays.{stays_all, stays_then}
-use Rattle.network.specs.NetworkFile.{roads_of}
-use Rattle.network.specs.working.RoadsRead.{GroupedFrom}
 use Rattle.network.proofs.GroupedRoads.{grouped-none, road-before, grouped_all}
-use borrow.Author.Rules.{rules}
 use Rattle.network.proofs.roads.group_roads.Goals as goal
 
 pub loop-k-init : goal.loop-k-init

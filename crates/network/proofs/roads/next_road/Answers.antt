@@ -1,7 +1,6 @@
 -- Road k touches v, so v is its lower end or its higher, and the table says what follows at either.
 use mathlib.Core.Path.{◌∙◌}
 use Rattle.network.proofs.GroupedRoads.{next_at_low, next_at_high}
-use borrow.Author.Rules.{rules}
 use Rattle.network.proofs.roads.next_road.Goals as goal
 
 pub returns-then-low-v : goal.returns-then-low-v

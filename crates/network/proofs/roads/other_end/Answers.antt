@@ -1,5 +1,4 @@
 -- If v is the lower end, the other is the higher; if not, the other is the lower, as the definition says.
-use borrow.Author.Rules.{rules}
 use Rattle.network.proofs.GroupedRoads.{read-other-high, read_other_low}
 use Rattle.network.proofs.roads.other_end.Goals as goal
 

@@ -1,7 +1,6 @@
 -- The first roads of the two ends become what follows road k there, and road k becomes the first road of both.
 use native.Mathlib.Omega.{arith}
 use Rattle.network.proofs.GroupedRoads.{ends-inside, road_put, starts_stay_put}
-use borrow.Author.Rules.{rules}
 use Rattle.network.proofs.roads.put_road.Goals as goal
 
 pub bounds-tables-low : goal.bounds-tables-low

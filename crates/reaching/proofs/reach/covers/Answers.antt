@@ -3,7 +3,6 @@ use native.Mathlib.Omega.{arith}
 use Prim.Native.Nat.{◌-◌}
 use Rattle.query.proofs.ListPlaces.{entry-inside}
 use Rattle.reaching.proofs.Searching.{covers-none, covers-decides}
-use borrow.Author.Rules.{rules}
 use Rattle.reaching.proofs.reach.covers.Goals as goal
 
 pub returns-then-j-eq0 : goal.returns-then-j-eq0

@@ -1,6 +1,5 @@
 -- All entries are tried exactly at a marked level whose least figures add up to no more than the pair; at any other no sum covers it.
 use Rattle.reaching.proofs.Searching.{tried_none, tried_nothing, tried_all}
-use borrow.Author.Rules.{rules}
 use Rattle.reaching.proofs.reach.entries_tried.Goals as goal
 
 pub returns-then-marks-level-ne1 : goal.returns-then-marks-level-ne1

@@ -1,6 +1,5 @@
 -- The marks are those of the junction held, so they are marked anew only for another one.
 use Rattle.reaching.proofs.Reaching.{held_same, held_new}
-use borrow.Author.Rules.{rules}
 use mathlib.Core.Path.{refl}
 use Rattle.reaching.proofs.reach.hold_hoplinks.Goals as goal
 

@@ -3,7 +3,6 @@ use Prim.Native.Nat.{◌-◌}
 use native.Mathlib.Omega.{arith}
 use Rattle.query.proofs.ListPlaces.{entry-inside}
 use Rattle.reaching.proofs.Searching.{list-none, list-decides}
-use borrow.Author.Rules.{rules}
 use Rattle.reaching.proofs.reach.list_reaches.Goals as goal
 
 pub returns-then-j-eq0 : goal.returns-then-j-eq0

@@ -3,7 +3,6 @@ use Prim.Native.Nat.{◌-◌}
 use native.Mathlib.Omega.{arith}
 use Rattle.query.proofs.ListPlaces.{entry-inside}
 use Rattle.reaching.proofs.Searching.{no_near, no_far, least-over, quickest_late}
-use borrow.Author.Rules.{rules}
 use Rattle.reaching.proofs.reach.may_cover.Goals as goal
 
 pub returns-then-near_count-eq0 : goal.returns-then-near_count-eq0

@@ -1,7 +1,6 @@
 -- A junction and itself, two trees, one above the other, two branches: in each case the pairs that are searched stand for all paths.
 use Rattle.query.proofs.WholeAnswers.{leads-nowhere, leads-list, leads-lists, list-between-fits, row_fits}
 use Rattle.reaching.proofs.Reaching.{on_labels, levels_marked, reach-itself, reach-apart, reach-list, reach_across}
-use borrow.Author.Rules.{rules}
 use Rattle.reaching.proofs.reach.reaches.Goals as goal
 
 pub returns-then-x-y : goal.returns-then-x-y
@@ -18,7 +17,7 @@ hold_hoplinks-requires c = let two = leads-lists _ _ _ c.in-Lists.is c.between-l
     record { files_fit = (c.requires.prepared.beside, c.requires.prepared.depths_filled, two.meets.on_map); held = c.requires.held }
 
 pub search_levels-requires : goal.search_levels-requires
-search_levels-requires c = let two = leads-lists _ _ _ c.lists2.given.1 c.between.ensures in
+search_levels-requires c = let two = leads-lists _ _ _ c.in-Lists.is c.between-lists.ensures in
     record { row_fits = row_fits c.requires.prepared two; levels_bound = levels_marked c.requires.prepared.beside.formed.parents two }
 
 pub returns-in-Nothing : goal.returns-in-Nothing
@@ -28,5 +27,5 @@ pub returns-in-List : goal.returns-in-List
 returns-in-List c = record { decides = reach-list c.requires.prepared (leads-list _ _ _ c.in-List.is c.between-lists.ensures) c.list_reaches.ensures; held_2 = c.requires.held }
 
 pub returns-in-Lists : goal.returns-in-Lists
-returns-in-Lists c = let two = leads-lists _ _ _ c.lists2.given.1 c.between.ensures in
-    record { decides = reach_across c.requires.prepared two c.hold-hoplinks.ensures.0 c.search_levels.ensures; held_2 = c.hold-hoplinks.ensures.1 }
+returns-in-Lists c = let two = leads-lists _ _ _ c.in-Lists.is c.between-lists.ensures in
+    record { decides = reach_across c.requires.prepared two c.hold_hoplinks.ensures.hop_marks c.search_levels.ensures; held_2 = c.hold_hoplinks.ensures.held_2 }

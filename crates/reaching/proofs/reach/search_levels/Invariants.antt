@@ -1,12 +1,8 @@
 -- At the marked levels passed, and with the near entries passed at this level, no sum covers the pair; the first that does ends both loops.
-use mathlib.Core.Path.{◌≡◌, refl}
+use mathlib.Core.Path.{◌≡◌}
 use mathlib.Core.Bool.{false}
 use Prim.Native.Nat.{◌-◌}
-use native.Mathlib.Omega.{arith}
-use Rattle.query.proofs.ListPlaces.{entry-inside}
-use Rattle.query.proofs.Rows.{along-near, along_far, near_next, far_next, along-more}
-use Rattle.reaching.proofs.Searching.{Pairing, pairing_start, pairing_more, covering_sum, level-none, level-found, LevelSearch, levels_start, levels_more, levels_found, levels_end}
-use borrow.Author.Rules.{rules}
+use Rattle.reaching.proofs.Searching.{Pairing, LevelSearch}
 use Rattle.reaching.proofs.reach.search_levels.Given as goal
 
 abbrev pub invariant-loop-i : goal.invariant-loop-i

@@ -1,6 +1,5 @@
 -- The time decides where it is too long, else the energy does.
 use Rattle.routes.proofs.RouteSteps.{too_slow, energies-decide}
-use borrow.Author.Rules.{rules}
 use Rattle.routes.proofs.route.fits_into.Goals as goal
 
 pub returns-then-below : goal.returns-then-below

@@ -2,10 +2,8 @@
 use Prim.Native.Nat.{ℕ}
 use native.Mathlib.Omega.{arith}
 use lib.ListN.{length-set, length-replicate}
-use Rattle.reaching.specs.working.Searched.{Held}
 use Rattle.reaching.proofs.Reaching.{held_none}
-use Rattle.routes.proofs.RouteWay.{OnWay, way_start, way_room, way_more, way_less, way_fits, way_end}
-use borrow.Author.Rules.{rules}
+use Rattle.routes.proofs.RouteWay.{way_start, way_room, way_more, way_less, way_fits, way_end}
 use Rattle.routes.proofs.route.route.Goals as goal
 
 pub loop-here-init : goal.loop-here-init
@@ -33,12 +31,12 @@ pub other_end-here-requires : goal.other_end-here-requires
 other_end-here-requires c = omega (arith, c.step_road-k.ensures.step_road.stands, c.requires.prepared.beside.network.whole)
 
 pub loop-here-smaller : goal.loop-here-smaller
-loop-here-smaller c = way_less c.requires.prepared.beside.network c.loop-here.invariant.0 c.step_road-k.ensures.step_road c.road_pair.ensures c.left_After.ensures
+loop-here-smaller c = way_less c.requires.prepared.beside.network c.loop-here.invariant.0 c.step_road-k.ensures.step_road c.road_pair.ensures c.left_after-rest.ensures
 
 pub loop-here-preserved : goal.loop-here-preserved
 loop-here-preserved c = (
   way_more c.requires.prepared.beside.network c.loop-here.invariant.0 c.loop-here-test.true c.step_road-k.ensures.step_road c.other_end-here.ensures.is c.road_pair.ensures
-      c.left_After.ensures,
+      c.left_after-rest.ensures,
   c.step_road-k.ensures.held_2,
 )
 

@@ -1,11 +1,6 @@
 -- What is written so far, with the first route of the rest behind it, is the first route of the whole; at y nothing is left.
-use Prim.Native.Nat.{ℕ}
-use native.Mathlib.Omega.{arith}
-use lib.ListN.{length-set, length-replicate}
 use Rattle.reaching.specs.working.Searched.{Held}
-use Rattle.reaching.proofs.Reaching.{held_none}
-use Rattle.routes.proofs.RouteWay.{OnWay, way_start, way_room, way_more, way_less, way_fits, way_end}
-use borrow.Author.Rules.{rules}
+use Rattle.routes.proofs.RouteWay.{OnWay}
 use Rattle.routes.proofs.route.route.Given as goal
 
 abbrev pub invariant-loop-here : goal.invariant-loop-here

@@ -1,10 +1,6 @@
 -- No road of the junction before k fits; the pair is a path's, so the search ends at a road that does.
-use mathlib.Core.Path.{◌∙◌}
-use Prim.Native.Nat.{◌-◌}
 use native.Mathlib.Omega.{arith}
-use Rattle.reaching.specs.working.Searched.{Held}
-use Rattle.routes.proofs.RouteSteps.{RoadSearch, search_start, search_more, search_later, search_found, search_never, road-follows}
-use borrow.Author.Rules.{rules}
+use Rattle.routes.proofs.RouteSteps.{search_start, search_more, search_later, search_found, search_never, road-follows}
 use Rattle.routes.proofs.route.step_road.Goals as goal
 
 pub loop-k-init : goal.loop-k-init

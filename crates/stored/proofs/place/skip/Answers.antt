@@ -1,10 +1,6 @@
 -- After i moves the place is i lists further than it was.
-use mathlib.Core.Path.{◌≡◌}
-use Prim.Native.Nat.{◌≤◌, ◌-◌}
-use native.Mathlib.Omega.{arith}
 use borrow.Author.Rules.{rules}
-use Rattle.stored.specs.working.Scanned.{further}
-use Rattle.stored.proofs.Places.{Moved, moved_none, moved_inside, moved_more, moved_all}
+use Rattle.stored.proofs.Places.{moved_none, moved_inside, moved_more, moved_all}
 use Rattle.stored.proofs.place.skip.Goals as goal
 
 pub loop-i-init : goal.loop-i-init

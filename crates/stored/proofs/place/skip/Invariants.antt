@@ -1,10 +1,6 @@
 -- After i moves the place is i lists further than it was.
-use mathlib.Core.Path.{◌≡◌}
-use Prim.Native.Nat.{◌≤◌, ◌-◌}
-use native.Mathlib.Omega.{arith}
-use borrow.Author.Rules.{rules}
-use Rattle.stored.specs.working.Scanned.{further}
-use Rattle.stored.proofs.Places.{Moved, moved_none, moved_inside, moved_more, moved_all}
+use Prim.Native.Nat.{◌-◌}
+use Rattle.stored.proofs.Places.{Moved}
 use Rattle.stored.proofs.place.skip.Given as goal
 
 abbrev pub invariant-loop-i : goal.invariant-loop-i

@@ -1,7 +1,6 @@
 -- A product of flags is 1 only where both are.
 use native.Mathlib.Omega.{arith}
 use Rattle.stored.proofs.ShortLists.{product_small, both_flagged}
-use borrow.Author.Rules.{rules}
 use Rattle.stored.proofs.runs.both.Goals as goal
 
 pub overflow_mul-result : goal.overflow_mul-result

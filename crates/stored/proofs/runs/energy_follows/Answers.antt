@@ -2,7 +2,6 @@
 use Rattle.std.proofs.lemmas.Bool.{not_from_true}
 use mathlib.Core.Bool.{false≢true}
 use Rattle.stored.proofs.ShortLists.{energy-follows}
-use borrow.Author.Rules.{rules}
 use Rattle.stored.proofs.runs.energy_follows.Goals as goal
 
 pub returns-then-not-at_most : goal.returns-then-not-at_most

@@ -1,6 +1,5 @@
 -- The flag is 1 only where the test was true.
 use native.Mathlib.Omega.{arith}
-use borrow.Author.Rules.{rules}
 use Rattle.stored.proofs.runs.flag.Goals as goal
 
 pub returns : goal.returns

@@ -1,7 +1,6 @@
 -- Each list that is passed is no longer than the entries that keep the rules.
-use Prim.Native.Nat.{◌-◌}
 use native.Mathlib.Omega.{arith}
-use Rattle.stored.proofs.ShortLists.{Running, running_none, running_more, short-passes}
+use Rattle.stored.proofs.ShortLists.{running_none, running_more, short-passes}
 use borrow.Author.Rules.{rules}
 use Rattle.stored.proofs.runs.pass_short.Goals as goal
 

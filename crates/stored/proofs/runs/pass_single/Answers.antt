@@ -2,9 +2,8 @@
 use Rattle.std.proofs.lemmas.Bool.{not_from_true}
 use mathlib.Core.Path.{sym}
 use borrow.Author.Tests.{not-false}
-use Prim.Native.Nat.{◌-◌}
 use native.Mathlib.Omega.{arith}
-use Rattle.stored.proofs.ShortLists.{Running, running_none, running_more}
+use Rattle.stored.proofs.ShortLists.{running_none, running_more}
 use borrow.Author.Rules.{rules}
 use Rattle.stored.proofs.runs.pass_single.Goals as goal
 

@@ -1,10 +1,6 @@
 -- Each list that is passed has one entry and no fault, so the next stands ten bytes on.
-use mathlib.Core.Path.{sym}
-use borrow.Author.Tests.{not-false}
 use Prim.Native.Nat.{◌-◌}
-use native.Mathlib.Omega.{arith}
-use Rattle.stored.proofs.ShortLists.{Running, running_none, running_more}
-use borrow.Author.Rules.{rules}
+use Rattle.stored.proofs.ShortLists.{Running}
 use Rattle.stored.proofs.runs.pass_single.Given as goal
 
 abbrev pub invariant-loop-run : goal.invariant-loop-run

@@ -1,7 +1,6 @@
 -- The two tests are those of `entry_number` for the second entry, which stands whole.
 use native.Mathlib.Omega.{arith}
 use Rattle.stored.proofs.ShortLists.{second_flagged}
-use borrow.Author.Rules.{rules}
 use Rattle.stored.proofs.runs.second_entry.Goals as goal
 
 pub returns : goal.returns

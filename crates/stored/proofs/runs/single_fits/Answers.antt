@@ -3,7 +3,6 @@ use mathlib.Core.Bool.{false≢true}
 use borrow.Author.Tests.{eqb-true}
 use native.Mathlib.Omega.{arith}
 use Rattle.stored.proofs.ShortLists.{single-passes}
-use borrow.Author.Rules.{rules}
 use Rattle.stored.proofs.runs.single_fits.Goals as goal
 
 pub returns-then-count_at-ne1 : goal.returns-then-count_at-ne1

@@ -2,7 +2,6 @@
 use Rattle.std.proofs.lemmas.Bool.{not_from_false, not_from_true}
 use mathlib.Core.Bool.{true}
 use mathlib.Core.Path.{refl}
-use borrow.Author.Rules.{rules}
 use Rattle.stored.proofs.Lists.{second-fails, third-decides}
 use Rattle.stored.proofs.stored.energy_fits.Goals as goal
 

@@ -1,9 +1,8 @@
 -- The invariant: no entry before j has a fault, and the ceiling and the floor are those of entry j.
 use Rattle.std.proofs.lemmas.Bool.{not_from_false, not_from_true}
-use Prim.Native.Nat.{◌-◌}
 use native.Mathlib.Omega.{arith}
 use borrow.Author.Rules.{rules}
-use Rattle.stored.proofs.Entries.{Tested, tested-none, tested_bad_time, tested_bad_energy, tested-more, tested_all, floor_fits}
+use Rattle.stored.proofs.Entries.{tested-none, tested_bad_time, tested_bad_energy, tested-more, tested_all, floor_fits}
 use Rattle.stored.proofs.stored.entries_number.Goals as goal
 
 pub loop-j-init : goal.loop-j-init

@@ -1,8 +1,6 @@
 -- The invariant: no entry before j has a fault, and the ceiling and the floor are those of entry j.
 use Prim.Native.Nat.{◌-◌}
-use native.Mathlib.Omega.{arith}
-use borrow.Author.Rules.{rules}
-use Rattle.stored.proofs.Entries.{Tested, tested-none, tested_bad_time, tested_bad_energy, tested-more, tested_all, floor_fits}
+use Rattle.stored.proofs.Entries.{Tested}
 use Rattle.stored.proofs.stored.entries_number.Given as goal
 
 abbrev pub invariant-loop-j : goal.invariant-loop-j

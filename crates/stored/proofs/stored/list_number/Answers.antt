@@ -1,6 +1,5 @@
 -- The entries that stand whole come first in byte order, and the one behind them is cut off, so one of them decides.
 use native.Mathlib.Omega.{arith}
-use borrow.Author.Rules.{rules}
 use Rattle.stored.proofs.Entries.{list_cut, list-long, list_faulty, list-passes, list_cut_entry}
 use Rattle.stored.proofs.stored.list_number.Goals as goal
 

@@ -1,9 +1,8 @@
 -- The invariant: the first j places of both slices hold the first j entries.
-use Prim.Native.Nat.{◌≤◌, ◌-◌}
 use native.Mathlib.Omega.{arith}
 use borrow.Author.Rules.{rules}
-use Rattle.forest.specs.LabelFile.{time_at, energy_at, list_end}
-use Rattle.stored.proofs.Tabulate.{Filling, filling-none, filling-more, filling_all}
+use Rattle.forest.specs.LabelFile.{list_end}
+use Rattle.stored.proofs.Tabulate.{filling-none, filling-more, filling_all}
 use Rattle.stored.proofs.stored.load.Goals as goal
 
 pub count_at-count-requires : goal.count_at-count-requires

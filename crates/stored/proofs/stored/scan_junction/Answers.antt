@@ -2,7 +2,6 @@
 use mathlib.Core.Path.{refl}
 use native.Mathlib.Omega.{arith}
 use Rattle.stored.proofs.Scan.{passed_counts, passed-left}
-use borrow.Author.Rules.{rules}
 use Rattle.stored.proofs.stored.scan_junction.Goals as goal
 
 pub pass_short-short-requires : goal.pass_short-short-requires

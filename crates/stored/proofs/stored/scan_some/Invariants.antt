@@ -1,8 +1,6 @@
 -- The invariant: k lists are passed, none with a fault, and the entries counted make up the bytes passed.
 use Prim.Native.Nat.{◌-◌}
-use borrow.Author.Rules.{rules}
 use Rattle.stored.specs.working.Scanned.{PassedSome}
-use Rattle.stored.proofs.Scan.{passed_none, passed-fault, list-stands, passed-more, passed_all}
 use Rattle.stored.proofs.stored.scan_some.Given as goal
 
 abbrev pub invariant-loop-k : goal.invariant-loop-k

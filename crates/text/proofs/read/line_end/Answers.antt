@@ -1,11 +1,5 @@
 -- The loop's invariant: no newline stands before `end`. The measure is what is left of the input.
-use mathlib.Core.List.{[], ◌∷◌}
-use Prim.Native.Nat.{◌-◌}
 use native.Mathlib.Omega.{arith}
-use types.Run.{miss}
-use borrow.Author.Rules.{rules}
-use lib.ListN.{length}
-use Rattle.text.specs.working.Reading.{NoNewline}
 use Rattle.text.proofs.ByteKinds.{newline_is, no_newline}
 use Rattle.text.proofs.LineSteps.{no_byte_yet, one_byte_more, newline-ends, input_ends}
 use Rattle.text.proofs.read.line_end.Goals as goal
@@ -18,7 +12,7 @@ returns-in-Newline c = search (newline-ends, newline_is)
 
 pub loop-end-preserved : goal.loop-end-preserved
 loop-end-preserved c = one_byte_more c.loop-end.invariant (omega arith)
-    (no_newline c.kind_of-found.ensures (λ e. miss (0 ∷ (1 ∷ (3 ∷ []))) 2 tt (rw e at c.in_default.keys2)))
+    (no_newline c.kind_of-found.ensures c.in_default.not-Newline)
 
 pub returns : goal.returns
 returns c = search (input_ends)

@@ -1,13 +1,7 @@
 -- The loop's invariant: no newline stands before `end`. The measure is what is left of the input.
-use mathlib.Core.List.{[], ◌∷◌}
 use Prim.Native.Nat.{◌-◌}
-use native.Mathlib.Omega.{arith}
-use types.Run.{miss}
-use borrow.Author.Rules.{rules}
 use lib.ListN.{length}
 use Rattle.text.specs.working.Reading.{NoNewline}
-use Rattle.text.proofs.ByteKinds.{newline_is, no_newline}
-use Rattle.text.proofs.LineSteps.{no_byte_yet, one_byte_more, newline-ends, input_ends}
 use Rattle.text.proofs.read.line_end.Given as goal
 
 abbrev pub invariant-loop-end : goal.invariant-loop-end

@@ -1,13 +1,7 @@
 -- The loop's invariant: digits alone stand before `next`, and the value is what they spell. The measure is what is left of the line.
-use mathlib.Core.List.{[], ◌∷◌}
 use Prim.Native.Nat.{◌≤◌, ◌-◌}
-use native.Mathlib.Omega.{arith}
-use types.Run.{miss}
-use borrow.Author.Rules.{rules}
 use lib.ListN.{length}
 use Rattle.text.specs.working.Reading.{DigitsTo}
-use Rattle.text.proofs.ByteKinds.{digit_is, digit_value, no_digit}
-use Rattle.text.proofs.DigitSteps.{no_digit_yet, one_digit_more, digits_stop}
 use Rattle.text.proofs.read.read_digits.Given as goal
 
 abbrev pub invariant-loop-next : goal.invariant-loop-next

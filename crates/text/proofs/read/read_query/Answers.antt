@@ -1,7 +1,6 @@
 -- Each way out of the reader is a law of query lines: what was read so far stands there, and what is missing no query line lacks.
 use Rattle.std.proofs.lemmas.Bool.{not_from_false, not_from_true}
 use native.Mathlib.Omega.{arith}
-use borrow.Author.Rules.{rules}
 use Rattle.text.proofs.NumberSteps.{number_at, no_number}
 use Rattle.text.proofs.SpaceSteps.{space_missing, space-stands}
 use Rattle.text.proofs.QuerySteps.{no_first, no_first_space, no_second, no_second_space, no_third, bytes_left, query-stands}

@@ -1,8 +1,5 @@
 -- A space stands at the byte exactly if the line has the byte and it reads as a space.
-use mathlib.Core.List.{[], ◌∷◌}
 use native.Mathlib.Omega.{arith}
-use types.Run.{miss}
-use borrow.Author.Rules.{rules}
 use Rattle.text.proofs.ByteKinds.{space_is, no_space}
 use Rattle.text.proofs.SpaceSteps.{space-told, no_space_told}
 use Rattle.text.proofs.read.space_at.Goals as goal
@@ -14,4 +11,4 @@ pub returns-in-Space : goal.returns-in-Space
 returns-in-Space c = space-told (omega arith) (search (space_is))
 
 pub returns-in_default : goal.returns-in_default
-returns-in_default c = no_space_told (λ s. no_space c.kind_of-found.ensures (λ e. miss (0 ∷ (2 ∷ (3 ∷ []))) 1 tt (rw e at c.in_default.keys2)) s.space)
+returns-in_default c = no_space_told (λ s. no_space c.kind_of-found.ensures c.in_default.not-Space s.space)

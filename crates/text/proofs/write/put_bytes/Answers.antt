@@ -1,8 +1,5 @@
 -- `text::write::put_bytes` copies byte after byte: each turn is `one_copied`.
-use Prim.Native.Nat.{◌-◌}
-use lib.ListN.{length}
-use Rattle.text.proofs.WritingLaws.{Copied, none_copied, one_copied, all_copied}
-use borrow.Author.Rules.{rules}
+use Rattle.text.proofs.WritingLaws.{none_copied, one_copied, all_copied}
 use Rattle.text.proofs.write.put_bytes.Goals as goal
 
 pub loop-i-init : goal.loop-i-init

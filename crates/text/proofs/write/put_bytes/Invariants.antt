@@ -1,8 +1,7 @@
 -- `text::write::put_bytes` copies byte after byte: each turn is `one_copied`.
 use Prim.Native.Nat.{◌-◌}
 use lib.ListN.{length}
-use Rattle.text.proofs.WritingLaws.{Copied, none_copied, one_copied, all_copied}
-use borrow.Author.Rules.{rules}
+use Rattle.text.proofs.WritingLaws.{Copied}
 use Rattle.text.proofs.write.put_bytes.Given as goal
 
 abbrev pub invariant-loop-i : goal.invariant-loop-i

@@ -1,6 +1,5 @@
 -- `text::write::put_numeral` copies the digits that `spell` placed.
 use Rattle.text.proofs.WritingLaws.{numeral_put}
-use borrow.Author.Rules.{rules}
 use Rattle.text.proofs.write.put_numeral.Goals as goal
 
 pub returns : goal.returns

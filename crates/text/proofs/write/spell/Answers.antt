@@ -1,6 +1,5 @@
 -- `text::write::spell` puts digit before digit: each turn is `one_spelled`.
-use Rattle.text.proofs.WritingLaws.{Spelling, spelling_start, one_spelled, all_spelled, ten_spelled}
-use borrow.Author.Rules.{rules}
+use Rattle.text.proofs.WritingLaws.{spelling_start, one_spelled, all_spelled, ten_spelled}
 use Rattle.text.proofs.write.spell.Goals as goal
 
 pub loop-place-init : goal.loop-place-init

@@ -2,7 +2,6 @@
 use mathlib.Core.Path.{refl}
 use mathlib.Core.Logic.{inl, inr}
 use native.Mathlib.Omega.{arith}
-use borrow.Author.Rules.{rules}
 use Rattle.unbeaten.proofs.JoinAnswers.{lists-formed, refused_form, refused-room, answered}
 use Rattle.unbeaten.proofs.join.join.Goals as goal
 

@@ -1,7 +1,6 @@
 -- Each best sum below the bound is the last entry of the join there, so the entries are counted one by one, from the last to the first.
 use native.Mathlib.Omega.{arith}
-use Rattle.unbeaten.proofs.JoinSteps.{CountingJoin, count-start, count-more, count_less, count_none, counted_end}
-use borrow.Author.Rules.{rules}
+use Rattle.unbeaten.proofs.JoinSteps.{count-start, count-more, count_less, count_none, counted_end}
 use Rattle.unbeaten.proofs.join.join_count.Goals as goal
 
 pub loop-bound-init : goal.loop-bound-init

@@ -1,7 +1,5 @@
 -- Each best sum below the bound is the last entry of the join there, so the entries are counted one by one, from the last to the first.
-use native.Mathlib.Omega.{arith}
-use Rattle.unbeaten.proofs.JoinSteps.{CountingJoin, count-start, count-more, count_less, count_none, counted_end}
-use borrow.Author.Rules.{rules}
+use Rattle.unbeaten.proofs.JoinSteps.{CountingJoin}
 use Rattle.unbeaten.proofs.join.join_count.Given as goal
 
 abbrev pub invariant-loop-bound : goal.invariant-loop-bound

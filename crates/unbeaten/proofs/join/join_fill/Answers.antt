@@ -1,8 +1,6 @@
 -- As many entries of the join lie below the bound as places are left, and the best sum there is the last of them, which goes to the last
 -- of those places.
-use native.Mathlib.Omega.{arith}
-use Rattle.unbeaten.proofs.JoinSteps.{FillingJoin, fill_start, fill_bound, fill_more, fill_never, fill_times, fill_energies}
-use borrow.Author.Rules.{rules}
+use Rattle.unbeaten.proofs.JoinSteps.{fill_start, fill_bound, fill_more, fill_never, fill_times, fill_energies}
 use Rattle.unbeaten.proofs.join.join_fill.Goals as goal
 
 pub loop-place-init : goal.loop-place-init
@@ -13,12 +11,6 @@ next_below-next-requires c = record { list = c.loop-place.invariant.first; list_
 
 pub returns-in_default : goal.returns-in_default
 returns-in_default c = absurd (fill_never c.loop-place.invariant c.loop-place-test.true c.next_below-next.ensures c.in_default.is)
-
-pub offset_bounds-out_times-place : goal.offset_bounds-out_times-place
-offset_bounds-out_times-place c = omega (arith, c.well_formed, c.loop-place.invariant)
-
-pub offset_bounds-out_energies-place : goal.offset_bounds-out_energies-place
-offset_bounds-out_energies-place c = omega (arith, c.well_formed, c.loop-place.invariant)
 
 pub loop-place-preserved : goal.loop-place-preserved
 loop-place-preserved c = fill_more c.loop-place.invariant c.loop-place-test.true c.next_below-next.ensures c.in-Found.is

@@ -1,8 +1,6 @@
 -- As many entries of the join lie below the bound as places are left, and the best sum there is the last of them, which goes to the last
 -- of those places.
-use native.Mathlib.Omega.{arith}
-use Rattle.unbeaten.proofs.JoinSteps.{FillingJoin, fill_start, fill_bound, fill_more, fill_never, fill_times, fill_energies}
-use borrow.Author.Rules.{rules}
+use Rattle.unbeaten.proofs.JoinSteps.{FillingJoin}
 use Rattle.unbeaten.proofs.join.join_fill.Given as goal
 
 abbrev pub invariant-loop-place : goal.invariant-loop-place

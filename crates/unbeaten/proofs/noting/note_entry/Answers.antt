@@ -1,9 +1,7 @@
 -- Each turn notes the sum with one entry more of the second list, and what stands behind the span makes no difference to it.
 use native.Mathlib.Omega.{arith}
-use Rattle.spans.proofs.TableLaws.{EntryNoted, entry-none, entry_all, entry-later, entry_more, entry-beyond}
-use Rattle.unbeaten.specs.working.Noting.{sums_with}
+use Rattle.spans.proofs.TableLaws.{entry-none, entry_all, entry-later, entry_more, entry-beyond}
 use Rattle.unbeaten.proofs.NotingLaws.{with_falls, fitting_time, fitting_energy}
-use borrow.Author.Rules.{rules}
 use Rattle.unbeaten.proofs.noting.note_entry.Goals as goal
 
 pub loop-j-init : goal.loop-j-init

@@ -1,9 +1,6 @@
 -- Each turn notes the sum with one entry more of the second list, and what stands behind the span makes no difference to it.
-use native.Mathlib.Omega.{arith}
-use Rattle.spans.proofs.TableLaws.{EntryNoted, entry-none, entry_all, entry-later, entry_more, entry-beyond}
+use Rattle.spans.proofs.TableLaws.{EntryNoted}
 use Rattle.unbeaten.specs.working.Noting.{sums_with}
-use Rattle.unbeaten.proofs.NotingLaws.{with_falls, fitting_time, fitting_energy}
-use borrow.Author.Rules.{rules}
 use Rattle.unbeaten.proofs.noting.note_entry.Given as goal
 
 abbrev pub invariant-loop-j : goal.invariant-loop-j

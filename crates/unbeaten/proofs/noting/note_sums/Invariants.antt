@@ -1,11 +1,8 @@
 -- Each turn notes the sums of one entry more of the first list with those of the second that fit beside it.
 use Prim.Native.Nat.{◌-◌}
-use native.Mathlib.Omega.{arith}
 use lib.ListN.{length}
 use Rattle.lists.specs.working.Sums.{sum_at}
-use Rattle.spans.proofs.TableLaws.{SumsNoted, sums_none, sums_all, sums_unfit, sums_end, sums-later, sums_next}
-use Rattle.unbeaten.proofs.NotingLaws.{sums_rise, fitting_asked, entry-small}
-use borrow.Author.Rules.{rules}
+use Rattle.spans.proofs.TableLaws.{SumsNoted}
 use Rattle.unbeaten.proofs.noting.note_sums.Given as goal
 
 abbrev pub invariant-loop-i : goal.invariant-loop-i

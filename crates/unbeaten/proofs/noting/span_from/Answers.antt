@@ -1,6 +1,5 @@
 -- No sum below the bound takes less than the first second; the sums of the span are noted, or it has none.
 use Rattle.spans.proofs.WaitingLaws.{waiting_none, waiting_noted}
-use borrow.Author.Rules.{rules}
 use Rattle.unbeaten.proofs.noting.span_from.Goals as goal
 
 pub returns-then-seconds_behind-last : goal.returns-then-seconds_behind-last

@@ -1,7 +1,6 @@
 -- The next list starts behind the count's two bytes and eight bytes for each entry.
 use mathlib.Core.List.{[]}
 use native.Mathlib.Omega.{arith}
-use borrow.Author.Rules.{rules}
 use Rattle.forest.specs.LabelFile.{list_end}
 use Rattle.stored.proofs.place.Place.next.Goals as goal
 
