@@ -1,11 +1,11 @@
-//! Links the static library `measured` from where `rt staticlib measured` leaves it.
+//! Links the static library `measured` from where `rt lib` in crates/measured leaves it.
 
 use std::env;
 use std::path::PathBuf;
 
 fn main() {
     let here = PathBuf::from(env::var_os("CARGO_MANIFEST_DIR").expect("cargo sets it"));
-    let folder = here.join("../target/staticlib");
+    let folder = here.join("../crates/measured/out");
     let archive = folder.join("libmeasured.a");
     // Without this a rebuilt library would be measured in its old form.
     println!("cargo::rerun-if-changed={}", archive.display());

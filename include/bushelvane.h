@@ -1,7 +1,7 @@
 /*
  * Bushelvane: checks label files of a route planner against their road network, and answers limited queries on the right ones.
  *
- * Link with libbushelvane.a, which `rt staticlib bushelvane` leaves in target/staticlib (x86-64 Linux). examples/c has a whole program.
+ * Link with libbushelvane.a, which `rt lib` in crates/bushelvane leaves in its folder out (x86-64 Linux). examples/c has a whole program.
  *
  * Networks and labels are the bytes of the two files, read whole by the caller. Times are seconds, energies and limits units of
  * 10 Wh. Junctions are 0 to n - 1.

@@ -7,7 +7,7 @@ fn main() {
     let here = PathBuf::from(env::var_os("CARGO_MANIFEST_DIR").expect("cargo sets it"));
     let folder = match env::var_os("BUSHELVANE_LIB_DIR") {
         Some(folder) => PathBuf::from(folder),
-        None => here.join("../../target/staticlib"),
+        None => here.join("../../crates/bushelvane/out"),
     };
     let archive = folder.join("libbushelvane.a");
     println!("cargo::rerun-if-env-changed=BUSHELVANE_LIB_DIR");
@@ -16,7 +16,7 @@ fn main() {
     // A warning: checking and documenting need no archive, and linking without it fails below this line.
     if !archive.exists() {
         println!(
-            "cargo::warning={} is missing: `rt staticlib bushelvane` makes it",
+            "cargo::warning={} is missing: `rt lib` in crates/bushelvane makes it",
             archive.display()
         );
     }

@@ -32,7 +32,7 @@
 //! | 41 | the two slices of a list differ in length |
 //! | 42 | a list to be joined has more than 4,095 entries, a number above 1,073,741,823, or breaks the order |
 //!
-//! The static library must be built first (`rt staticlib bushelvane`). It is looked for in `target/staticlib` of the project around
+//! The static library must be built first (`rt lib` in `crates/bushelvane`). It is looked for in `crates/bushelvane/out` of the project around
 //! this crate, or in the folder that the variable `BUSHELVANE_LIB_DIR` names. A call takes up to 128 KB of stack, and no heap.
 //!
 //! ```

@@ -1,4 +1,4 @@
-//! `bushelvane-answer-cases [PROGRAM] [SEED]`: runs every case on the program, ../../target/bin/answer unless said otherwise, and ends at the first that is
+//! `bushelvane-answer-cases [PROGRAM] [SEED]`: runs every case on the program, ../../crates/answer/out/answer unless said otherwise, and ends at the first that is
 //! not printed as it must be. Its folder is then kept.
 
 use std::env;
@@ -11,7 +11,7 @@ fn main() -> ExitCode {
     let here = PathBuf::from(env!("CARGO_MANIFEST_DIR"));
     let program = match env::args_os().nth(1) {
         Some(path) => PathBuf::from(path),
-        None => here.join("../../target/bin/answer"),
+        None => here.join("../../crates/answer/out/answer"),
     };
     let Ok(program) = program.canonicalize() else {
         println!("{} is missing", program.display());
