@@ -11,7 +11,7 @@ use lib.IntN.{ℤ, pos, negsuc}
 use lib.ListN.{length, take, length-append}
 use lib.Seq.{length-take-le}
 use Rattle.io.specs.Counts.{IsPrefixLen}
-use Rattle.replies.specs.Printed.{Replies, none, more, Printed}
+use Rattle.replies.specs.Printed.{Replies, none, more}
 use Rattle.replies.specs.HandedOn.{taken_length, RepliesHandedOn, PrintedHandedOn}
 use Rattle.replies.specs.working.Buffer.{FirstLine, FilledTo, FirstBytes}
 use Rattle.replies.proofs.PrintedParts.{buffer_then, refused-printed, answered-printed}

@@ -1,6 +1,6 @@
 -- Sums of stored lists noted by their times. In this order: one level; all levels; what a span answers.
 use mathlib.Core.Path.{◌≡◌, refl, sym, ap, ◌∙◌}
-use mathlib.Core.Logic.{inl, inr, ⊎_elim}
+use mathlib.Core.Logic.{◌⊎◌, inl, inr, ⊎_elim}
 use mathlib.Core.List.{List}
 use Prim.Native.Nat.{ℕ, ◌+◌, ◌-◌, ◌≤◌, ◌<◌}
 use native.Mathlib.Omega.{arith}
@@ -180,6 +180,10 @@ refused (case.Found takes spends) none e = none (record { takes = takes; spends 
 refused case.OffMap none e = omega arith
 refused case.NotConnected none e = omega arith
 refused case.OverLimit none e = omega arith
+
+-- the key of a pair is no other answer's
+pub found_key : (◌≡◌ {A = ℕ} 0 1) ⊎ ((◌≡◌ {A = ℕ} 0 2) ⊎ (◌≡◌ {A = ℕ} 0 3)) → ⊥
+found_key k = ⊎_elim (λ e. omega arith) (⊎_elim (λ e. omega arith) (λ e. omega arith)) k
 
 -- what is found is the best of the set
 found-best :

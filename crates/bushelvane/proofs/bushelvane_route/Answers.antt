@@ -1,6 +1,5 @@
 -- The struct holds the number and the values of the answer that Route states.
 use Rattle.bushelvane.proofs.Passed.{route-passed}
-use borrow.Author.Rules.{rules}
 use Rattle.bushelvane.proofs.bushelvane_route.Goals as goal
 
 pub returns : goal.returns

@@ -1,6 +1,5 @@
 -- Each way through a batch is one law of `Outcomes`.
 use native.Mathlib.Omega.{arith}
-use borrow.Author.Rules.{rules}
 use Rattle.accepted.proofs.Accepted.{ready_for_queries}
 use Rattle.labels.proofs.Outcomes.{done_no_triples, done_too_many, done_other_places, done_not_accepted, done_answered, batch_triples}
 use Rattle.labels.proofs.batch.Goals as goal

@@ -1,5 +1,4 @@
 -- The check's number refuses; what follows the check is `write_list` of `accepted`.
-use borrow.Author.Rules.{rules}
 use Rattle.accepted.proofs.Accepted.{ready_for_queries}
 use Rattle.labels.proofs.Outcomes.{list_not_accepted, list-answered}
 use Rattle.labels.proofs.list.Goals as goal

@@ -1,7 +1,6 @@
 -- The check's number refuses; what follows the check is `answer_route` of `accepted`.
 use Rattle.accepted.proofs.Accepted.{ready_for_queries}
 use Rattle.labels.proofs.Outcomes.{route_not_accepted, route-answered}
-use borrow.Author.Rules.{rules}
 use Rattle.labels.proofs.route.Goals as goal
 
 pub returns-then-number-ne0 : goal.returns-then-number-ne0

@@ -1,7 +1,6 @@
 -- `measured_form` may ask for the labels' form: a network whose number is 0 fits. Its answer is the number of the file that it asks last.
 use mathlib.Core.Path.{refl}
 use native.Mathlib.Omega.{arith}
-use borrow.Author.Rules.{rules}
 use Rattle.network.specs.Versions.{version_one}
 use Rattle.network.proofs.Accepted.{network-fits}
 use Rattle.measured.specs.working.FormNumber.{network_refused, network_passed}

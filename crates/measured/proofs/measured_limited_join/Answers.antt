@@ -1,5 +1,4 @@
 -- Each arm of the match says the number, the time and the energy of the case that the answer is.
-use borrow.Author.Rules.{rules}
 use Rattle.measured.proofs.Cases.{sum_case}
 use Rattle.measured.proofs.measured_limited_join.Goals as goal
 

@@ -1,5 +1,4 @@
 -- Each arm of the match says the number and the count of the case that the answer is.
-use borrow.Author.Rules.{rules}
 use Rattle.measured.proofs.Cases.{list_case}
 use Rattle.measured.proofs.measured_list.Goals as goal
 

@@ -1,7 +1,6 @@
 -- `agree::agree::all_marked` is right: each mark that was read was 1 and is 0 now; the first that is not 1 refuses, or all are read.
 use Prim.Native.Nat.{◌-◌}
-use Rattle.agree.proofs.AgreeSteps.{Unmarking, unmarking_none, unmarking_more, unmarking_refuse, unmarking_end}
-use borrow.Author.Rules.{rules}
+use Rattle.agree.proofs.AgreeSteps.{Unmarking}
 use Rattle.agree.proofs.agree.all_marked.Given as goal
 
 abbrev pub invariant-loop-i : goal.invariant-loop-i

@@ -2,12 +2,10 @@
 use Rattle.std.proofs.lemmas.Bool.{not_from_false, not_from_true}
 use mathlib.Core.Path.{sym}
 use mathlib.Core.Bool.{true≢false}
-use Prim.Native.Nat.{◌-◌}
 use native.Mathlib.Omega.{arith}
 use borrow.Author.Tests.{not-true, not-false}
 use Rattle.agree.proofs.CoverSteps.{count-inside, list_read}
-use Rattle.agree.proofs.AgreeSteps.{Agreed, agreed_start, agreed_more, agreed_refuse, agreed_end, agreed_unmarked, next-later, own_index, header-inside, own_place, own_fits, first_is, road_input, next_input}
-use borrow.Author.Rules.{rules}
+use Rattle.agree.proofs.AgreeSteps.{agreed_start, agreed_more, agreed_refuse, agreed_end, agreed_unmarked, next-later, own_index, header-inside, own_place, own_fits, first_is, road_input, next_input}
 use Rattle.agree.proofs.agree.list_agrees.Goals as goal
 
 pub number_of-at-requires : goal.number_of-at-requires

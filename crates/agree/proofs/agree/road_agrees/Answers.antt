@@ -2,7 +2,6 @@
 use native.Mathlib.Omega.{arith}
 use Rattle.agree.proofs.Neighbours.{leaves_nothing, neighbour_index, neighbour_rest}
 use Rattle.agree.proofs.AgreeSteps.{road-tested}
-use borrow.Author.Rules.{rules}
 use Rattle.agree.proofs.agree.road_agrees.Goals as goal
 
 pub returns-then-w-u : goal.returns-then-w-u

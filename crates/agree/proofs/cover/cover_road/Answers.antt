@@ -1,7 +1,6 @@
 -- `agree::cover::cover_road` is right: nothing is left behind the road, so its weight is the one sum.
 use mathlib.Core.Path.{refl}
 use Rattle.agree.proofs.MergeSteps.{road-alone}
-use borrow.Author.Rules.{rules}
 use Rattle.agree.proofs.cover.cover_road.Goals as goal
 
 pub returns : goal.returns

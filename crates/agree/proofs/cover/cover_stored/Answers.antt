@@ -1,10 +1,7 @@
 -- `agree::cover::cover_stored` is right: each turn covers one sum, and an own entry no slower than the last sum covers all that follow.
-use Prim.Native.Nat.{◌-◌}
 use native.Mathlib.Omega.{arith}
-use Rattle.paths.specs.Weights.{pair}
 use Rattle.agree.proofs.CoverSteps.{count-inside, time-inside, list_read}
-use Rattle.agree.proofs.MergeSteps.{Merged, merged_start, merged_behind, merged_refuse, merged_more, merged_early, merged_end}
-use borrow.Author.Rules.{rules}
+use Rattle.agree.proofs.MergeSteps.{merged_start, merged_behind, merged_refuse, merged_more, merged_early, merged_end}
 use Rattle.agree.proofs.cover.cover_stored.Goals as goal
 
 pub count_at-rest_count-requires : goal.count_at-rest_count-requires

@@ -1,6 +1,5 @@
 -- `agree::cover::cover_sum` is right: the next entry covers the sum, or the first that is no slower decides.
 use Rattle.agree.proofs.CoverSteps.{kept-places, sum_next, sum_quick, sum_uncovered}
-use borrow.Author.Rules.{rules}
 use Rattle.agree.proofs.cover.cover_sum.Goals as goal
 
 pub returns-then-covers_at : goal.returns-then-covers_at

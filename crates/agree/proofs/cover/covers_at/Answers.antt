@@ -3,7 +3,6 @@ use mathlib.Core.Path.{sym, ◌∙◌}
 use borrow.Author.Tests.{ltb-true, ltb-false}
 use native.Mathlib.Omega.{arith}
 use Rattle.agree.proofs.CoverSteps.{time-inside, energy-inside, compared_behind, compared_slower, compared_dearer, compared_covers}
-use borrow.Author.Rules.{rules}
 use Rattle.agree.proofs.cover.covers_at.Goals as goal
 
 pub returns-then-i-own_count : goal.returns-then-i-own_count

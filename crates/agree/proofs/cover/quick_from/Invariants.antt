@@ -1,8 +1,6 @@
 -- `agree::cover::quick_from` is right: the entries from the hint up to i are slower, and the first that is not, or the end, stops it.
 use Prim.Native.Nat.{◌-◌}
-use Rattle.agree.proofs.CoverSteps.{time-inside, Slower, slower-none, slower-more, slower-stops, slower_end}
-use native.Mathlib.Omega.{arith}
-use borrow.Author.Rules.{rules}
+use Rattle.agree.proofs.CoverSteps.{Slower}
 use Rattle.agree.proofs.cover.quick_from.Given as goal
 
 abbrev pub invariant-loop-i : goal.invariant-loop-i

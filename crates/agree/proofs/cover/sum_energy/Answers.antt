@@ -1,7 +1,6 @@
 -- `agree::cover::sum_energy` is right: the entry stands in the file, and a road's energy and a stored one together fit 32 bits.
 use native.Mathlib.Omega.{arith}
 use Rattle.agree.proofs.CoverSteps.{energy-inside, energy-adds}
-use borrow.Author.Rules.{rules}
 use Rattle.agree.proofs.cover.sum_energy.Goals as goal
 
 pub energy_at-requires : goal.energy_at-requires

@@ -1,7 +1,6 @@
 -- `agree::cover::sum_time` is right: the entry stands in the file, and a road's time and a stored one together fit 32 bits.
 use native.Mathlib.Omega.{arith}
 use Rattle.agree.proofs.CoverSteps.{time-inside, time-adds}
-use borrow.Author.Rules.{rules}
 use Rattle.agree.proofs.cover.sum_time.Goals as goal
 
 pub time_at-requires : goal.time_at-requires

@@ -1,6 +1,5 @@
 -- A road makes its upper end a hoplink of l exactly if l stands between its ends; the depths rule most roads out.
 use Rattle.hoplinks.proofs.Marks.{upper-deep, lower-shallow, lower-elsewhere, road-crosses}
-use borrow.Author.Rules.{rules}
 use Rattle.hoplinks.proofs.hoplinks.crossing_depth.Goals as goal
 
 pub returns-then-own-above : goal.returns-then-own-above

@@ -1,9 +1,6 @@
 -- The loop has cleared every place below k, and stops at `own`, which is marked last.
-use Prim.Native.Nat.{◌≤◌, ◌-◌}
 use native.Mathlib.Omega.{arith}
-use Rattle.hoplinks.specs.working.Marking.{Cleared}
 use Rattle.hoplinks.proofs.Marks.{cleared_more, one_mark}
-use borrow.Author.Rules.{rules}
 use Rattle.hoplinks.proofs.hoplinks.mark_itself.Goals as goal
 
 pub loop-k-preserved : goal.loop-k-preserved

@@ -2,7 +2,6 @@
 use Rattle.hoplinks.proofs.Marks.{low_branch, high-branch, low_marks, high_marks}
 use native.Mathlib.Omega.{arith}
 use Rattle.network.proofs.GroupedRoads.{ends-inside}
-use borrow.Author.Rules.{rules}
 use Rattle.hoplinks.proofs.hoplinks.road_mark.Goals as goal
 
 pub bounds-depths-low : goal.bounds-depths-low

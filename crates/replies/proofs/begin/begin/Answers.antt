@@ -1,7 +1,6 @@
 -- `replies::begin::begin`: the check decides which line is put; an accepted set has both headers.
 use native.Mathlib.Omega.{arith}
 use Rattle.replies.proofs.FirstLines.{net_long, labels-long, first-refused, first-heading}
-use borrow.Author.Rules.{rules}
 use Rattle.replies.proofs.begin.begin.Goals as goal
 
 pub returns-then-number-ne0 : goal.returns-then-number-ne0

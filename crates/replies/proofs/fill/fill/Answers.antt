@@ -1,10 +1,6 @@
 -- `replies::fill::fill` replies to line after line: each turn is `filling-more`.
-use native.Mathlib.Omega.{arith}
-use Prim.Native.Nat.{◌-◌}
-use lib.ListN.{length}
 use Rattle.text.specs.Lines.{line_of}
-use Rattle.replies.proofs.FillSteps.{Filling, filling-start, filling-more, filled_all, filled_full}
-use borrow.Author.Rules.{rules}
+use Rattle.replies.proofs.FillSteps.{filling-start, filling-more, filled_all, filled_full}
 use Rattle.replies.proofs.fill.fill.Goals as goal
 
 pub loop-next-init : goal.loop-next-init

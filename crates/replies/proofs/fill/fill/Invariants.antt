@@ -1,10 +1,7 @@
 -- `replies::fill::fill` replies to line after line: each turn is `filling-more`.
-use native.Mathlib.Omega.{arith}
 use Prim.Native.Nat.{◌-◌}
 use lib.ListN.{length}
-use Rattle.text.specs.Lines.{line_of}
-use Rattle.replies.proofs.FillSteps.{Filling, filling-start, filling-more, filled_all, filled_full}
-use borrow.Author.Rules.{rules}
+use Rattle.replies.proofs.FillSteps.{Filling}
 use Rattle.replies.proofs.fill.fill.Given as goal
 
 abbrev pub invariant-loop-next : goal.invariant-loop-next

@@ -1,7 +1,6 @@
 -- `replies::lines::put_heading` puts the words of the heading, one behind another.
 use native.Mathlib.Omega.{arith}
 use Rattle.replies.proofs.LineLaws.{heading_put, behind-numeral}
-use borrow.Author.Rules.{rules}
 use Rattle.replies.proofs.lines.put_heading.Goals as goal
 
 pub put_byte-requires : goal.put_byte-requires

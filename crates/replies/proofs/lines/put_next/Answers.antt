@@ -1,6 +1,5 @@
 -- `replies::lines::put_next` puts a hyphen and a number.
 use Rattle.replies.proofs.LineLaws.{next_put}
-use borrow.Author.Rules.{rules}
 use Rattle.replies.proofs.lines.put_next.Goals as goal
 
 pub returns : goal.returns

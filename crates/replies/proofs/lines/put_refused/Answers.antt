@@ -1,7 +1,6 @@
 -- `replies::lines::put_refused` puts the word and the number.
 use native.Mathlib.Omega.{arith}
 use Rattle.replies.proofs.LineLaws.{refused_put, behind-numeral}
-use borrow.Author.Rules.{rules}
 use Rattle.replies.proofs.lines.put_refused.Goals as goal
 
 pub put_byte-requires : goal.put_byte-requires

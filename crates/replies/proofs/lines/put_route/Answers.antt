@@ -1,7 +1,6 @@
 -- `replies::lines::put_route` puts junction after junction: each turn is `route-more`.
-use Prim.Native.Nat.{◌≤◌, ◌-◌}
 use native.Mathlib.Omega.{arith}
-use Rattle.replies.proofs.LineLaws.{RoutePut, route-start, route-more, route-room, route-whole}
+use Rattle.replies.proofs.LineLaws.{route-start, route-more, route-room, route-whole}
 use borrow.Author.Rules.{rules}
 use Rattle.replies.proofs.lines.put_route.Goals as goal
 

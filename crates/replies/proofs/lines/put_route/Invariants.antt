@@ -1,8 +1,6 @@
 -- `replies::lines::put_route` puts junction after junction: each turn is `route-more`.
 use Prim.Native.Nat.{◌≤◌, ◌-◌}
-use native.Mathlib.Omega.{arith}
-use Rattle.replies.proofs.LineLaws.{RoutePut, route-start, route-more, route-room, route-whole}
-use borrow.Author.Rules.{rules}
+use Rattle.replies.proofs.LineLaws.{RoutePut}
 use Rattle.replies.proofs.lines.put_route.Given as goal
 
 abbrev pub invariant-loop-i : goal.invariant-loop-i

@@ -1,6 +1,5 @@
 -- `replies::lines::put_word` puts a number and a space.
 use Rattle.replies.proofs.LineLaws.{word_put, behind-numeral}
-use borrow.Author.Rules.{rules}
 use Rattle.replies.proofs.lines.put_word.Goals as goal
 
 pub put_byte-requires : goal.put_byte-requires

@@ -1,6 +1,5 @@
 -- `replies::lines::put_words` puts six words, one behind another.
 use Rattle.replies.proofs.LineLaws.{words_put}
-use borrow.Author.Rules.{rules}
 use Rattle.replies.proofs.lines.put_words.Goals as goal
 
 pub returns : goal.returns

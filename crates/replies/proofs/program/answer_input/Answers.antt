@@ -3,7 +3,6 @@ use native.Mathlib.Omega.{arith}
 use mathlib.Core.Path.{refl}
 use Rattle.accepted.proofs.Accepted.{ready_for_queries}
 use Rattle.replies.proofs.HandingOn.{refusal_handed, answers_handed}
-use borrow.Author.Rules.{rules}
 use Rattle.replies.proofs.program.answer_input.Goals as goal
 
 pub hand_on-first-requires : goal.hand_on-first-requires

@@ -3,7 +3,6 @@ use Prim.Native.Nat.{◌-◌}
 use mathlib.Core.Path.{◌≡◌, refl}
 use native.Mathlib.Omega.{arith}
 use lib.ListN.{length-take}
-use borrow.Author.Rules.{rules}
 use Rattle.replies.proofs.program.first_bytes.Goals as goal
 
 pub returns : goal.returns

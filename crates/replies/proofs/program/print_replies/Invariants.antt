@@ -1,9 +1,7 @@
 -- `replies::program::print_replies`: each turn hands on one filled buffer more (`handing_more`), from where the one before ended.
-use native.Mathlib.Omega.{arith}
 use Prim.Native.Nat.{◌-◌}
 use lib.ListN.{length}
-use Rattle.replies.proofs.HandingOn.{HandingOn, handing_start, handing_more, handed_all}
-use borrow.Author.Rules.{rules}
+use Rattle.replies.proofs.HandingOn.{HandingOn}
 use Rattle.replies.proofs.program.print_replies.Given as goal
 
 abbrev pub invariant-loop-next : goal.invariant-loop-next

@@ -1,6 +1,5 @@
 -- `replies::program::read_file`: what is taken of a file was read.
 use Rattle.replies.proofs.HandingOn.{taken_counts}
-use borrow.Author.Rules.{rules}
 use Rattle.replies.proofs.program.read_file.Goals as goal
 
 pub returns : goal.returns

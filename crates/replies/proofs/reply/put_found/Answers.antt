@@ -4,7 +4,6 @@ use Prim.Native.Nat.{ℕ}
 use lib.ListN.{length-replicate}
 use Rattle.accepted.proofs.FoundPair.{answered-zero, found_skyline}
 use Rattle.replies.proofs.ReplyCases.{route-sized, found_replied}
-use borrow.Author.Rules.{rules}
 use Rattle.replies.proofs.reply.put_found.Goals as goal
 
 pub route-count-requires : goal.route-count-requires

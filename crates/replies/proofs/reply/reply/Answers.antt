@@ -1,10 +1,6 @@
 -- `replies::reply::reply`: a line is read as a query, or it is bad.
-use native.Mathlib.Omega.{arith}
-use mathlib.Core.Path.{◌≡◌}
-use mathlib.Core.Logic.{◌⊎◌, ⊎_elim}
-use Prim.Native.Nat.{ℕ}
+use mathlib.Core.Logic.{⊎_elim}
 use Rattle.replies.proofs.ReplyCases.{read_whole, query_or_bad, bad_replied, read-query, query_replied}
-use borrow.Author.Rules.{rules}
 use Rattle.replies.proofs.reply.reply.Goals as goal
 
 pub returns-in_default : goal.returns-in_default

@@ -1,12 +1,8 @@
 -- `replies::reply::reply_query`: an answer is a found pair, or it carries zeros beside its number.
-use native.Mathlib.Omega.{arith}
-use mathlib.Core.Path.{◌≡◌}
-use mathlib.Core.Logic.{◌⊎◌, ⊎_elim}
-use Prim.Native.Nat.{ℕ}
+use mathlib.Core.Logic.{⊎_elim}
 use Rattle.accepted.proofs.BatchSteps.{pair_or_zeros}
 use Rattle.accepted.proofs.FoundPair.{found-zero}
 use Rattle.replies.proofs.ReplyCases.{refusal_replied}
-use borrow.Author.Rules.{rules}
 use Rattle.replies.proofs.reply.reply_query.Goals as goal
 
 pub returns-in_default : goal.returns-in_default
