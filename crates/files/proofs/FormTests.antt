@@ -54,11 +54,11 @@ module _ (serves : Served) (labels : List ℕ) where
       unfolding header_form
       header_unmarked fails = rw (le-leb 16 (length labels) long, le-leb (length labels) most_bytes few, ← mark-is, not-true mark fails)
 
-      module _ (has-mark : not mark ≡ false) {version : ℕ} {known : Bool} (version-is : Read16 (version_of labels) version) (Known-is : known ≡ served serves version) where
+      module _ (has-mark : not mark ≡ false) {version : ℕ} {known : Bool} (version-is : Read16 (version_of labels) version) (known_is : known ≡ served serves version) where
         -- what is left after 12
         after_mark : header_form serves labels ≡ unless known 13 0
         unfolding header_form
-        after_mark = rw (le-leb 16 (length labels) long, le-leb (length labels) most_bytes few, ← mark-is, not-false mark has-mark, ← version-is.is, ← Known-is)
+        after_mark = rw (le-leb 16 (length labels) long, le-leb (length labels) most_bytes few, ← mark-is, not-false mark has-mark, ← version-is.is, ← known_is)
 
         -- 13
         pub header_unserved : not known ≡ true → 13 ≡ header_form serves labels
@@ -96,7 +96,7 @@ module _ (net labels : List ℕ) {n junctions : ℕ} (n-is : Read16 (junctions_o
   -- one n, and the identity decides
   pub same_size : {identity asked : ℕ} → n ≡ junctions → identity ≡ identity_of labels → asked ≡ identity_of net → eqb identity asked ≡ same_network net labels
   unfolding same_network
-  same_size e identity-is Asked-is = rw (← n-is.is, ← junctions-is.is, eq-eqb n junctions e, ← identity-is, ← Asked-is)
+  same_size e identity-is asked_is = rw (← n-is.is, ← junctions-is.is, eq-eqb n junctions e, ← identity-is, ← asked_is)
 
 -- ---- The parents
 

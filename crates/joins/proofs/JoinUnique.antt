@@ -14,19 +14,19 @@ use Rattle.joins.specs.declared.JoinAnswer.TheVariants as case
 use Rattle.joins.specs.Answers.{join_number_of, join_count_of, Join, refused, no_room, joined}
 
 -- The same outcome: what is handed back, and what the lent slices hold
-pub record SameOutcome (number count number' count' : ℕ) (times_after energies_after timesAfter' energiesAfter' : List ℕ) : Type 0 where
+pub record SameOutcome (number count number' count' : ℕ) (times_after energies_after times_after' energies_after' : List ℕ) : Type 0 where
   pub same_number : number ≡ number'
   pub same_count : count ≡ count'
-  pub same-times : times_after ≡ timesAfter'
-  pub same-energies : energies_after ≡ energiesAfter'
+  pub same-times : times_after ≡ times_after'
+  pub same-energies : energies_after ≡ energies_after'
 
 module _
-    {out_times out_energies : List ℕ} {number count number' count' : ℕ} {times_after energies_after timesAfter' energiesAfter' : List ℕ} where
+    {out_times out_energies : List ℕ} {number count number' count' : ℕ} {times_after energies_after times_after' energies_after' : List ℕ} where
   -- two refusals by one number are the same
   refusals_same :
       {by : ℕ} → ListRefused out_times out_energies number count times_after energies_after by →
-      ListRefused out_times out_energies number' count' timesAfter' energiesAfter' by →
-      SameOutcome number count number' count' times_after energies_after timesAfter' energiesAfter'
+      ListRefused out_times out_energies number' count' times_after' energies_after' by →
+      SameOutcome number count number' count' times_after energies_after times_after' energies_after'
   refusals_same r r' =
       record {
         same_number = r.number_is ∙ sym r'.number_is;
@@ -39,8 +39,8 @@ module _
   pub join_outcome_unique :
       {times energies more_times more_energies : List ℕ} →
       Join times energies more_times more_energies out_times out_energies number count times_after energies_after →
-      Join times energies more_times more_energies out_times out_energies number' count' timesAfter' energiesAfter' →
-      SameOutcome number count number' count' times_after energies_after timesAfter' energiesAfter'
+      Join times energies more_times more_energies out_times out_energies number' count' times_after' energies_after' →
+      SameOutcome number count number' count' times_after energies_after times_after' energies_after'
   join_outcome_unique (refused h r) (refused h' r') = refusals_same r r'
   join_outcome_unique (refused h r) (no_room p j s r') = absurd (h p)
   join_outcome_unique (refused h r) (joined p j s n' c' t' e') = absurd (h p)
@@ -83,11 +83,11 @@ same-join case.NoRoom case.NoRoom n c = refl
 
 -- Join has one answer, and leaves one content in the lent slices: two that meet its statement for the same inputs are equal
 pub join_answer_unique :
-    {times energies more_times more_energies out_times out_energies times_after energies_after timesAfter' energiesAfter' : List ℕ}
+    {times energies more_times more_energies out_times out_energies times_after energies_after times_after' energies_after' : List ℕ}
     {r r' : JoinAnswer} →
     Join times energies more_times more_energies out_times out_energies (join_number_of r) (join_count_of r) times_after energies_after →
-    Join times energies more_times more_energies out_times out_energies (join_number_of r') (join_count_of r') timesAfter' energiesAfter' →
-    (r ≡ r') × (times_after ≡ timesAfter') × (energies_after ≡ energiesAfter')
+    Join times energies more_times more_energies out_times out_energies (join_number_of r') (join_count_of r') times_after' energies_after' →
+    (r ≡ r') × (times_after ≡ times_after') × (energies_after ≡ energies_after')
 join_answer_unique {r = r} {r' = r'} met met' =
     let same = join_outcome_unique met met' in
     (same-join r r' same.same_number same.same_count, same.same-times, same.same-energies)

@@ -30,10 +30,10 @@ refusals_same r r' =
 
 -- Two answers that meet the statement for the same inputs are equal
 pub limited_join_unique :
-    {times energies more_times more_energies : List ℕ} {limit number sum_time sum_energy number' sumTime' sumEnergy' : ℕ} →
+    {times energies more_times more_energies : List ℕ} {limit number sum_time sum_energy number' sum_time' sum_energy' : ℕ} →
     LimitedJoin times energies more_times more_energies limit number sum_time sum_energy →
-    LimitedJoin times energies more_times more_energies limit number' sumTime' sumEnergy' →
-    SameAnswer number sum_time sum_energy number' sumTime' sumEnergy'
+    LimitedJoin times energies more_times more_energies limit number' sum_time' sum_energy' →
+    SameAnswer number sum_time sum_energy number' sum_time' sum_energy'
 limited_join_unique (refused h r) (refused h' r') = refusals_same r r'
 limited_join_unique (refused h r) (over_limit p s r') = absurd (h p)
 limited_join_unique (refused h r) (found p b n') = absurd (h p)

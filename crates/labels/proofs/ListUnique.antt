@@ -23,11 +23,11 @@ use Rattle.accepted.specs.List.{ListAnswered, off_map, not_connected, no_room, l
 use Rattle.accepted.proofs.CheckUnique.{check_unique}
 use Rattle.labels.specs.List.{Listed, not_accepted, answered, ListDone}
 
-pub record SameList (number count : ℕ) (times_after energies_after : List ℕ) (number' count' : ℕ) (timesAfter' energiesAfter' : List ℕ) : Type 0 where
+pub record SameList (number count : ℕ) (times_after energies_after : List ℕ) (number' count' : ℕ) (times_after' energies_after' : List ℕ) : Type 0 where
   pub same_number : number ≡ number'
   pub same_count : count ≡ count'
-  pub same-times : times_after ≡ timesAfter'
-  pub same-energies : energies_after ≡ energiesAfter'
+  pub same-times : times_after ≡ times_after'
+  pub same-energies : energies_after ≡ energies_after'
 
 -- both ends are on the map, or an end is not
 on_and_off : {junctions s t : ℕ} → (junctions ≤ s) ⊎ (junctions ≤ t) → s < junctions → t < junctions → ⊥
@@ -39,13 +39,13 @@ entry-joins :
 entry-joins {list = []} right some apart = absurd (omega arith)
 entry-joins {list = p ∷ list} right some apart = apart (right.real (Memᴰ.head refl)).walk
 
-module _ {times_before energies_before : List ℕ} {number count number' count' : ℕ} {times_after energies_after timesAfter' energiesAfter' : List ℕ} where
+module _ {times_before energies_before : List ℕ} {number count number' count' : ℕ} {times_after energies_after times_after' energies_after' : List ℕ} where
   -- two refusals by one number are the same
   refusals_same :
       {by by' : ℕ} → by ≡ by' →
       ListRefused times_before energies_before number count times_after energies_after by →
-      ListRefused times_before energies_before number' count' timesAfter' energiesAfter' by' →
-      SameList number count times_after energies_after number' count' timesAfter' energiesAfter'
+      ListRefused times_before energies_before number' count' times_after' energies_after' by' →
+      SameList number count times_after energies_after number' count' times_after' energies_after'
   refusals_same e r r' =
       record {
         same_number = r.number_is ∙ e ∙ sym r'.number_is;
@@ -58,8 +58,8 @@ module _ {times_before energies_before : List ℕ} {number count number' count' 
     -- No second answer meets what is stated of an accepted set
     pub list_accepted_unique :
         ListAnswered net s t times_before energies_before number count times_after energies_after →
-        ListAnswered net s t times_before energies_before number' count' timesAfter' energiesAfter' →
-        SameList number count times_after energies_after number' count' timesAfter' energiesAfter'
+        ListAnswered net s t times_before energies_before number' count' times_after' energies_after' →
+        SameList number count times_after energies_after number' count' times_after' energies_after'
     list_accepted_unique (off_map off r) (off_map off' r') = refusals_same refl r r'
     list_accepted_unique (off_map off r) (not_connected h' k' apart' r') = absurd (on_and_off off h' k')
     list_accepted_unique (off_map off r) (no_room h' k' right' some' short' r') = absurd (on_and_off off h' k')
@@ -88,8 +88,8 @@ module _ {times_before energies_before : List ℕ} {number count number' count' 
     pub list_unique :
         {labels : List ℕ} →
         Listed net labels s t times_before energies_before number count times_after energies_after →
-        Listed net labels s t times_before energies_before number' count' timesAfter' energiesAfter' →
-        SameList number count times_after energies_after number' count' timesAfter' energiesAfter'
+        Listed net labels s t times_before energies_before number' count' times_after' energies_after' →
+        SameList number count times_after energies_after number' count' times_after' energies_after'
     list_unique (not_accepted c k r) (not_accepted c' k' r') = refusals_same (check_unique c c') r r'
     list_unique (not_accepted c k r) (answered c' a) = absurd (k (check_unique c c'))
     list_unique (answered c a) (not_accepted c' k r) = absurd (k (check_unique c' c))
@@ -116,10 +116,10 @@ answer_rebuilt net labels case.NoRoom is = refl
 
 -- No second answer meets Trade-off list's statement
 pub list_answer_unique :
-    {net labels times_before energies_before times_after energies_after timesAfter' energiesAfter' : List ℕ} {s t : ℕ} {answer answer' : ListAnswer} →
+    {net labels times_before energies_before times_after energies_after times_after' energies_after' : List ℕ} {s t : ℕ} {answer answer' : ListAnswer} →
     ListDone net labels s t times_before energies_before answer times_after energies_after →
-    ListDone net labels s t times_before energies_before answer' timesAfter' energiesAfter' →
-    (answer ≡ answer') × (times_after ≡ timesAfter') × (energies_after ≡ energiesAfter')
+    ListDone net labels s t times_before energies_before answer' times_after' energies_after' →
+    (answer ≡ answer') × (times_after ≡ times_after') × (energies_after ≡ energies_after')
 list_answer_unique {net} {labels} {answer = answer} {answer' = answer'} done done' =
     let same = list_unique done.gives done'.gives in (
       answer_rebuilt net labels answer done.case_is

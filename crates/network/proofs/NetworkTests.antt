@@ -140,17 +140,17 @@ module _ (serves : Served) (net : List ℕ) where
     unfolding header_number
     header_unmarked fails = rw (le-leb 16 (length net) long, ← mark-is, not-true mark fails)
 
-    module _ (has-mark : not mark ≡ false) {version : ℕ} {known : Bool} (version-is : Read16 (version_of net) version) (Known-is : known ≡ served serves version) where
+    module _ (has-mark : not mark ≡ false) {version : ℕ} {known : Bool} (version-is : Read16 (version_of net) version) (known_is : known ≡ served serves version) where
       -- 3
       pub header_unserved : not known ≡ true → 3 ≡ header_number serves net
       unfolding header_number
-      header_unserved fails = rw (le-leb 16 (length net) long, ← mark-is, not-false mark has-mark, ← version-is.is, ← Known-is, not-true known fails)
+      header_unserved fails = rw (le-leb 16 (length net) long, ← mark-is, not-false mark has-mark, ← version-is.is, ← known_is, not-true known fails)
 
       module _ (is_Known : not known ≡ false) {sizes : Bool} (sizes-is : sizes ≡ sizes_fit net) where
         -- what is left after 3
         after-served : header_number serves net ≡ unless sizes 4 (unless (eqb (length net) (record_at net (roads_of net) 0)) 1 0)
         unfolding header_number
-        after-served = rw (le-leb 16 (length net) long, ← mark-is, not-false mark has-mark, ← version-is.is, ← Known-is, not-false known is_Known, ← sizes-is)
+        after-served = rw (le-leb 16 (length net) long, ← mark-is, not-false mark has-mark, ← version-is.is, ← known_is, not-false known is_Known, ← sizes-is)
 
         -- 4
         pub header_sizes : not sizes ≡ true → 4 ≡ header_number serves net

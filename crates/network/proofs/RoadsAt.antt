@@ -120,7 +120,7 @@ module _ (s : List ℕ) (v k : ℕ) where
   -- a road touches no other junction
   pub touches-neither : (road_low s k ≡ v → ⊥) → (road_high s k ≡ v → ⊥) → touches s v k ≡ false
   unfolding touches
-  touches-neither Apart-low apart-high = rw (ne_eqb (road_low s k) v Apart-low, ne_eqb (road_high s k) v apart-high)
+  touches-neither apart_low apart-high = rw (ne_eqb (road_low s k) v apart_low, ne_eqb (road_high s k) v apart-high)
 
   -- a road that does not have v for its lower end and touches it has v for its higher end
   pub high_if_not_low : (road_low s k ≡ v → ⊥) → touches s v k ≡ true → road_high s k ≡ v

@@ -1,5 +1,5 @@
 -- Decisions that compute at closed data: name each on an `unfolding` line, and `by_decision d tt` is what d decides.
--- (`Dec.and` and `Dec·not` are mathlib's; `found?` of Covering decides whether a list has such an entry.)
+-- (`Dec.and` and `Dec.not` are mathlib's; `found?` of Covering decides whether a list has such an entry.)
 -- In this order: connectives; over a list; below a number.
 use mathlib.Core.Path.{◌≡◌, refl}
 use mathlib.Core.Logic.Dec

@@ -176,7 +176,7 @@ module _ {labels : List ℕ} {near far C i j : ℕ} {known best : Sum} (now : Wa
   pub walk_ends : {count : ℕ} → count ≡ count_at labels near → count ≤ i → Improves labels (Only near far) C known best
   walk_ends e h = walk_done (λ a b g m n w. absurd (omega arith))
 
-  module _ (Near-fits : ListFits labels near) (far_fits : ListFits labels far) (turn : i < count_at labels near) {beside r : ℕ} (read : beside ≡ energy_at labels near i)
+  module _ (near_fits : ListFits labels near) (far_fits : ListFits labels far) (turn : i < count_at labels near) {beside r : ℕ} (read : beside ≡ energy_at labels near i)
       (fitting : FittingFrom labels far beside C j r) where
     -- beside entry i and what is behind it nothing fits from place r on
     beyond : (a b : ℕ) → i ≤ a → a < count_at labels near → r ≤ b → b < count_at labels far → C < energy_at labels near a + energy_at labels far b
@@ -184,7 +184,7 @@ module _ {labels : List ℕ} {near far C i j : ℕ} {known best : Sum} (now : Wa
       where
         pick : Dec (j ≤ b) → C < energy_at labels near a + energy_at labels far b
         pick (yes behind) = now.over a b h g behind n
-        pick (no before) = omega (arith, read, fitting.over b m (omega arith), energies_rise Near-fits i a h g)
+        pick (no before) = omega (arith, read, fitting.over b m (omega arith), energies_rise near_fits i a h g)
 
     -- nothing fits
     pub walk_none : r ≡ 0 → Improves labels (Only near far) C known best
@@ -211,7 +211,7 @@ module _ {labels : List ℕ} {near far C i j : ℕ} {known best : Sum} (now : Wa
               pick : Dec (r ≤ b) → NotLater energy (pair_of best) (sum_of labels near far a b)
               pick (yes behind) = absurd (omega (arith, beyond a b h g behind m))
               pick (no before) =
-                  sooner (by_time (omega (arith, late, is-quickest, is-takes, is_sum, last_quickest b (omega arith), times_fall Near-fits a (count_at labels near - 1) (omega arith) (omega arith))))
+                  sooner (by_time (omega (arith, late, is-quickest, is-takes, is_sum, last_quickest b (omega arith), times_fall near_fits a (count_at labels near - 1) (omega arith) (omega arith))))
 
       module _ {candidate : Sum} (is : SumIs labels near far i (r - 1) candidate) where
         candidate_is : pair_of candidate ≡ sum_of labels near far i (r - 1)
@@ -276,7 +276,7 @@ module _ {labels : List ℕ} {near far C i j : ℕ} {known best : Sum} (now : Wa
 
 -- ---- Where the walk starts
 
-module _ {labels : List ℕ} {near far : ℕ} {known : Sum} (Near-fits : ListFits labels near) (far_fits : ListFits labels far) (worth : WorthWalking labels near far known)
+module _ {labels : List ℕ} {near far : ℕ} {known : Sum} (near_fits : ListFits labels near) (far_fits : ListFits labels far) (worth : WorthWalking labels near far known)
     {quickest start : ℕ} (is : quickest ≡ time_at labels far (count_at labels far - 1)) (slow : SlowBefore labels near quickest known.time.0 start) where
   -- the last near entry is quick enough
   pub start-inside : start < count_at labels near
@@ -293,7 +293,7 @@ module _ {labels : List ℕ} {near far : ℕ} {known : Sum} (Near-fits : ListFit
         in_near = slow.in_list;
         in_far = fitting.in_range;
         slow = λ a b h g. omega (arith, is, slow.slow a h, times_fall far_fits b (count_at labels far - 1) (omega arith) (omega arith));
-        over = λ a b h g m n. omega (arith, read, fitting.over b m n, energies_rise Near-fits start a h g);
+        over = λ a b h g m n. omega (arith, read, fitting.over b m n, energies_rise near_fits start a h g);
       }
 
 -- ---- One level
@@ -329,7 +329,7 @@ module _ {labels : List ℕ} {near far near-count : ℕ} (near_is : near-count �
       pub level_walked : {C : ℕ} {known r : Best} → r.connected ≡ true → Improves labels (Only near far) C known.sum r.sum → Extends labels (Only near far) C known r
       level_walked e improves = extends_seen level-some e improves
 
-      module _ (Near-fits : ListFits labels near) (far_fits : ListFits labels far) where
+      module _ (near_fits : ListFits labels near) (far_fits : ListFits labels far) where
         -- the least energies are over the limit
         pub level-over :
             {C : ℕ} {known r : Best} {cheapest : Sum} {test : Bool} → SumIs labels near far 0 0 cheapest → test ≡ ltb C cheapest.energy.0 → test ≡ true →
@@ -343,7 +343,7 @@ module _ {labels : List ℕ} {near far near-count : ℕ} (near_is : near-count �
                 (a b : ℕ) → a < count_at labels near → b < count_at labels far → energy_at labels near a + energy_at labels far b ≤ C →
                 NotLater energy (pair_of known.sum) (sum_of labels near far a b)
             over a b h g w =
-                absurd (omega (arith, beyond, is.energy_is, energies_rise Near-fits 0 a (omega arith) h, energies_rise far_fits 0 b (omega arith) g))
+                absurd (omega (arith, beyond, is.energy_is, energies_rise near_fits 0 a (omega arith) h, energies_rise far_fits 0 b (omega arith) g))
 
         module _ {quickest : Sum} (is : SumIs labels near far (near-count - 1) (far-count - 1) quickest) where
           -- the last entries, which are the quickest
@@ -368,7 +368,7 @@ module _ {labels : List ℕ} {near far near-count : ℕ} (near_is : near-count �
                     arith,
                     late,
                     quickest_is,
-                    times_fall Near-fits a (count_at labels near - 1) (omega arith) (omega arith),
+                    times_fall near_fits a (count_at labels near - 1) (omega arith) (omega arith),
                     times_fall far_fits b (count_at labels far - 1) (omega arith) (omega arith),
                   )))
 

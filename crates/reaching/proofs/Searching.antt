@@ -85,7 +85,7 @@ pub pairing_start : (labels : List ℕ) (near far most_time most_energy count : 
 pairing_start labels near far most_time most_energy count e =
     record { few = omega arith; in_far = omega arith; over = λ a k h g m n. absurd (omega arith); none = λ a k h g m n. absurd (omega arith) }
 
-module _ {labels : List ℕ} {near far most_time most_energy count i j r beside : ℕ} (Near-fits : ListFits labels near) (far_fits : ListFits labels far)
+module _ {labels : List ℕ} {near far most_time most_energy count i j r beside : ℕ} (near_fits : ListFits labels near) (far_fits : ListFits labels far)
     (now : Pairing labels near far most_time most_energy count i j) (h : i < count) (few : count ≤ count_at labels near) (beside-is : beside ≡ energy_at labels near i)
     (fitting : FittingFrom labels far beside most_energy j r) where
   -- the entries from r on are over beside entry i
@@ -102,7 +102,7 @@ module _ {labels : List ℕ} {near far most_time most_energy count i j r beside 
       record {
         few = omega arith;
         in_far = omega (arith, fitting.in_range, now.in_far);
-        over = λ a k g m n o. omega (arith, beyond k n o, energies_rise Near-fits i a (omega arith) m);
+        over = λ a k g m n o. omega (arith, beyond k n o, energies_rise near_fits i a (omega arith) m);
         none = λ a k g m in_time in-energy. pick a k g m in_time in-energy (ℕ_discrete a i) (dec_le r k);
       }
     where
@@ -162,7 +162,7 @@ module _ {labels : List ℕ} {near far most_time most_energy : ℕ} where
   pub no_far : {count : ℕ} → count ≡ count_at labels far → count ≡ 0 → NoSum labels near far most_time most_energy 0
   no_far e f = record { none = λ i k from h g in_time in-energy. omega arith }
 
-  module _ (Near-fits : ListFits labels near) (far_fits : ListFits labels far) where
+  module _ (near_fits : ListFits labels near) (far_fits : ListFits labels far) where
     -- the first entries have the least energies
     pub least-over :
         {first second sum : ℕ} {over : Bool} → first ≡ energy_at labels near 0 → second ≡ energy_at labels far 0 → sum ≡ first + second → over ≡ ltb most_energy sum →
@@ -171,7 +171,7 @@ module _ {labels : List ℕ} {near far most_time most_energy : ℕ} where
         let beyond : most_energy < sum = ltb-true most_energy sum (sym e ∙ f) in
         record {
           none = λ i k from h g in_time in-energy.
-              omega (arith, energies_rise Near-fits 0 i (omega arith) h, energies_rise far_fits 0 k (omega arith) g);
+              omega (arith, energies_rise near_fits 0 i (omega arith) h, energies_rise far_fits 0 k (omega arith) g);
         }
 
     -- the last entries have the least times
@@ -182,7 +182,7 @@ module _ {labels : List ℕ} {near far most_time most_energy : ℕ} where
         let late : most_time < sum = leb-false sum most_time (sym e ∙ f) in
         record {
           none = λ i k from h g in_time in-energy.
-              omega (arith, times_fall Near-fits i (count - 1) (omega arith) (omega arith), times_fall far_fits k (others - 1) (omega arith) (omega arith));
+              omega (arith, times_fall near_fits i (count - 1) (omega arith) (omega arith), times_fall far_fits k (others - 1) (omega arith) (omega arith));
         }
 
 -- ---- One level

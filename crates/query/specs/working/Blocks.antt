@@ -6,7 +6,7 @@ use Rattle.preorder.specs.working.Numbered.{spot_of, size_of}
 abbrev pub far_spots : ℕ
 far_spots = 1024
 
--- How many spots v stands behind u; farSpots where it stands before
+-- How many spots v stands behind u; far_spots where it stands before
 pub record BehindBy (tables : List ℕ) (u v r : ℕ) : Type 0 where
   pub behind : spot_of tables u ≤ spot_of tables v → r ≡ spot_of tables v - spot_of tables u
   pub before : spot_of tables v < spot_of tables u → r ≡ far_spots

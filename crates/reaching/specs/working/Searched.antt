@@ -25,7 +25,7 @@ pub record CoversAt (labels : List ℕ) (near i far j most_time : ℕ) : Type 0 
   pub some : 0 < j
   pub quick : time_at labels near i + time_at labels far (j - 1) ≤ most_time
 
--- No sum of an entry of the near list, from place `from` on, and an entry of the far list takes no more than (mostTime, mostEnergy)
+-- No sum of an entry of the near list, from place `from` on, and an entry of the far list takes no more than (most_time, most_energy)
 pub record NoSum (labels : List ℕ) (near far most_time most_energy from : ℕ) : Type 0 where
   pub none :
       (i k : ℕ) → from ≤ i → i < count_at labels near → k < count_at labels far → time_at labels near i + time_at labels far k ≤ most_time →

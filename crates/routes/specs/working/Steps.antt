@@ -21,7 +21,7 @@ pub record LeftAfter (whole part left : Pair) : Type 0 where
   pub time_is : left.time.0 ≡ whole.time.0 - part.time.0
   pub energy_is : left.energy.0 ≡ whole.energy.0 - part.energy.0
 
--- Road k fits into (wholeTime, wholeEnergy), and a path from its other end to y fits into the rest
+-- Road k fits into (whole_time, whole_energy), and a path from its other end to y fits into the rest
 pub record StepFits (net : List ℕ) (x y k whole_time whole_energy : ℕ) : Type 0 where
   pub fitting_time : road_time net k ≤ whole_time
   pub fitting_energy : road_energy net k ≤ whole_energy

@@ -22,10 +22,10 @@ pub energy_at-requires : goal.energy_at-requires
 energy_at-requires c = entry-inside (along-near c.search.invariant.0.along c.requires.row_fits c.search-test.true) (omega (arith, c.loop-i-test.true, c.entries_tried-count.ensures.few))
 
 pub fitting_from-j-requires : goal.fitting_from-j-requires
-fitting_from-j-requires c = let Near-fits = along-near c.search.invariant.0.along c.requires.row_fits c.search-test.true in record {
+fitting_from-j-requires c = let near_fits = along-near c.search.invariant.0.along c.requires.row_fits c.search-test.true in record {
   list_fits = along_far c.search.invariant.0.along c.requires.row_fits c.search-test.true;
   beside_le_most_figure = (
-    omega (arith, c.energy_at.ensures, (Near-fits.fitting_energy c.loop-i.i (omega (arith, c.loop-i-test.true, c.entries_tried-count.ensures.few))).1),
+    omega (arith, c.energy_at.ensures, (near_fits.fitting_energy c.loop-i.i (omega (arith, c.loop-i-test.true, c.entries_tried-count.ensures.few))).1),
     c.loop-i.invariant.0.in_far,
   );
 }
