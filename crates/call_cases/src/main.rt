@@ -4,8 +4,7 @@
 ghost use Rattle.io.specs.Counts.{IsPrefixLen};
 
 use labels::{ListAnswer, RouteAnswer};
-use reading::read_full;
-use std::fs;
+use reading::{open, read_full};
 use std::rt::Files;
 
 const STANDARD_OUTPUT: i32 = 1;
@@ -14,10 +13,7 @@ const STANDARD_OUTPUT: i32 = 1;
 fn read_file<R: Files>(files: &R, path: &[u8; 5], buffer: &mut [u8]) -> usize
     ensures { IsPrefixLen result buffer.new }
 {
-    let Ok(name) = str::from_utf8(path) else {
-        return 0;
-    };
-    let Ok(mut file) = fs::open(files, name) else {
+    let Some(mut file) = open(files, path) else {
         return 0;
     };
     read_full(&mut file, buffer)

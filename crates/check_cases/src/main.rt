@@ -3,8 +3,7 @@
 
 ghost use Rattle.io.specs.Counts.{IsPrefixLen};
 
-use reading::read_full;
-use std::fs;
+use reading::{open, read_full};
 use std::rt::Files;
 
 const STANDARD_OUTPUT: i32 = 1;
@@ -24,10 +23,7 @@ fn path(k: usize, a: u8, b: u8, c: u8) -> [u8; 7] {
 fn read_file<R: Files>(files: &R, path: &[u8; 7], buffer: &mut [u8]) -> usize
     ensures { IsPrefixLen result buffer.new }
 {
-    let Ok(name) = str::from_utf8(path) else {
-        return 0;
-    };
-    let Ok(mut file) = fs::open(files, name) else {
+    let Some(mut file) = open(files, path) else {
         return 0;
     };
     read_full(&mut file, buffer)

@@ -9,8 +9,7 @@ ghost use Rattle.replies.specs.working.Buffer.{FirstBytes};
 use crate::HandedOn;
 use crate::begin::begin;
 use crate::fill::fill;
-use reading::{read_full, read_further};
-use std::fs;
+use reading::{open, read_full, read_further};
 use std::rt::Files;
 
 // How long a file is taken to be, from how many bytes were read and what one further read gave.
@@ -27,10 +26,7 @@ fn taken_length(count: usize, rest: isize) -> usize
 fn read_file<R: Files>(files: &R, path: &[u8], buffer: &mut [u8]) -> usize
     ensures { IsPrefixLen result buffer.new }
 {
-    let Ok(name) = str::from_utf8(path) else {
-        return 0;
-    };
-    let Ok(mut file) = fs::open(files, name) else {
+    let Some(mut file) = open(files, path) else {
         return 0;
     };
     let count = read_full(&mut file, buffer);

@@ -1,0 +1,2 @@
+-- What is said of reading a file.
+pub mod Reading
