@@ -1,33 +1,20 @@
-ghost use Rattle.std.specs.Prelude.{◌≡◌, ◌+◌, ◌<◌, ◌^◌, leb, ltb, eqb};
+ghost use Rattle.std.specs.Prelude.{◌≡◌, ◌+◌, ◌<◌, ◌^◌};
+
+use std::ops::Add;
 
 // An energy in units of 10 Wh.
-#[derive(Clone, Copy)]
+#[derive(Clone, Copy, PartialEq, Eq, PartialOrd, Ord)]
 pub struct Energy(pub u32);
 
-impl Energy {
-    // The sum, which the caller keeps within 32 bits.
-    pub fn plus(self, other: Energy) -> Energy
-        requires { self.0 + other.0 < 2 ^ 32 }
-        ensures { result.0 ≡ self.0 + other.0 }
-    {
+// The sum, which the caller keeps within 32 bits.
+impl Add for Energy {
+    type Output = Energy;
+
+    ghost can_add = { λ a b. a.0 + b.0 < 2 ^ 32 };
+
+    ghost add_gives = { λ a b sum. sum.0 ≡ a.0 + b.0 };
+
+    fn add(self, other: Energy) -> Energy {
         Energy(self.0 + other.0)
-    }
-
-    pub fn below(self, other: Energy) -> bool
-        ensures { result ≡ ltb self.0 other.0 }
-    {
-        self.0 < other.0
-    }
-
-    pub fn at_most(self, other: Energy) -> bool
-        ensures { result ≡ leb self.0 other.0 }
-    {
-        self.0 <= other.0
-    }
-
-    pub fn equals(self, other: Energy) -> bool
-        ensures { result ≡ eqb self.0 other.0 }
-    {
-        self.0 == other.0
     }
 }

@@ -1,33 +1,20 @@
-ghost use Rattle.std.specs.Prelude.{◌≡◌, ◌+◌, ◌<◌, ◌^◌, leb, ltb, eqb};
+ghost use Rattle.std.specs.Prelude.{◌≡◌, ◌+◌, ◌<◌, ◌^◌};
+
+use std::ops::Add;
 
 // A time in seconds.
-#[derive(Clone, Copy)]
+#[derive(Clone, Copy, PartialEq, Eq, PartialOrd, Ord)]
 pub struct Seconds(pub u32);
 
-impl Seconds {
-    // The sum, which the caller keeps within 32 bits.
-    pub fn plus(self, other: Seconds) -> Seconds
-        requires { self.0 + other.0 < 2 ^ 32 }
-        ensures { result.0 ≡ self.0 + other.0 }
-    {
+// The sum, which the caller keeps within 32 bits.
+impl Add for Seconds {
+    type Output = Seconds;
+
+    ghost can_add = { λ a b. a.0 + b.0 < 2 ^ 32 };
+
+    ghost add_gives = { λ a b sum. sum.0 ≡ a.0 + b.0 };
+
+    fn add(self, other: Seconds) -> Seconds {
         Seconds(self.0 + other.0)
-    }
-
-    pub fn below(self, other: Seconds) -> bool
-        ensures { result ≡ ltb self.0 other.0 }
-    {
-        self.0 < other.0
-    }
-
-    pub fn at_most(self, other: Seconds) -> bool
-        ensures { result ≡ leb self.0 other.0 }
-    {
-        self.0 <= other.0
-    }
-
-    pub fn equals(self, other: Seconds) -> bool
-        ensures { result ≡ eqb self.0 other.0 }
-    {
-        self.0 == other.0
     }
 }

@@ -23,16 +23,10 @@ pub const SPOTS: usize = 11264;
 // How many junctions stand in a junction's block, itself among them.
 pub const SIZES: usize = 12288;
 
-fn wide(number: u32) -> usize
-    ensures { result ≡ number }
-{
-    number as usize
-}
-
 // The number at a place of the table, as a place of its own.
 pub fn entry_at(tables: &[u32; 13312], place: usize) -> usize
     requires { (length tables.now ≡ table_places) × (place < table_places) }
     ensures { result ≡ get_or tables.now place 0 }
 {
-    wide(tables[place])
+    tables[place] as usize
 }
