@@ -1,74 +1,49 @@
 // Runs the calls on the networks of data/ and prints what each gives, with every lent place: 9999 is one that was not written.
 #![tactic(auto)]
 
-ghost use Rattle.io.specs.Counts.{IsPrefixLen};
-
-use labels::{ListAnswer, RouteAnswer};
-use reading::{open, read_full};
+use labels::{FoundRoute, ListRefusal, RouteRefusal};
+use reading::read_start;
 use std::rt::Files;
 
 const STANDARD_OUTPUT: i32 = 1;
 
-// How many bytes of the file stand at the start of the buffer; none if it cannot be read.
-fn read_file<R: Files>(files: &R, path: &[u8; 5], buffer: &mut [u8]) -> usize
-    ensures { IsPrefixLen result buffer.new }
-{
-    let Some(mut file) = open(files, path) else {
-        return 0;
-    };
-    read_full(&mut file, buffer)
-}
-
-fn wide(x: u32) -> u64 {
-    x as u64
-}
-
 fn print(x: u32) {
     io::write_all(STANDARD_OUTPUT, b" ");
-    io::print_decimal(STANDARD_OUTPUT, wide(x));
+    io::print_decimal(STANDARD_OUTPUT, u64::from(x));
 }
 
 fn print_all(places: &[u32; 6]) {
-    let mut i = 0;
-    while i < 6 {
-        print(places[i]);
-        i += 1;
+    for place in places {
+        print(*place);
     }
     io::write_all(STANDARD_OUTPUT, b"\n");
 }
 
-fn print_route(answer: RouteAnswer) {
+fn print_route(answer: Result<FoundRoute, RouteRefusal>) {
     match answer {
-        RouteAnswer::Routed(time, energy, count) => {
+        Ok(found) => {
             print(0);
-            print(time.0);
-            print(energy.0);
-            print(count);
+            print(found.pair.time.0);
+            print(found.pair.energy.0);
+            print(found.count);
         }
-        RouteAnswer::NotAccepted(number) => print(number),
-        RouteAnswer::OffMap => print(21),
-        RouteAnswer::NotConnected => print(22),
-        RouteAnswer::OverLimit => print(23),
-        RouteAnswer::NoRoom => print(24),
+        Err(refusal) => print(refusal.number()),
     }
 }
 
-fn print_list(answer: ListAnswer) {
+fn print_list(answer: Result<u32, ListRefusal>) {
     match answer {
-        ListAnswer::Listed(count) => {
+        Ok(count) => {
             print(0);
             print(count);
         }
-        ListAnswer::NotAccepted(number) => print(number),
-        ListAnswer::OffMap => print(21),
-        ListAnswer::NotConnected => print(22),
-        ListAnswer::NoRoom => print(24),
+        Err(refusal) => print(refusal.number()),
     }
 }
 
 // A route with some of six places lent.
 fn route(net: &[u8], labels: &[u8], s: u32, t: u32, limit: u32, room: usize) {
-    let mut places: [u32; 6] = [9999; 6];
+    let mut places = [9999; 6];
     if room > 6 {
         return;
     }
@@ -77,7 +52,7 @@ fn route(net: &[u8], labels: &[u8], s: u32, t: u32, limit: u32, room: usize) {
     print(t);
     print(limit);
     io::write_all(STANDARD_OUTPUT, b":");
-    let answer = labels::route(net, labels, s, t, limit, &mut places[0..room]);
+    let answer = labels::route(net, labels, s, t, limit, &mut places[..room]);
     print_route(answer);
     io::write_all(STANDARD_OUTPUT, b" |");
     print_all(&places);
@@ -85,8 +60,8 @@ fn route(net: &[u8], labels: &[u8], s: u32, t: u32, limit: u32, room: usize) {
 
 // A list with some of six places lent for the times, and all for the energies.
 fn list(net: &[u8], labels: &[u8], s: u32, t: u32, room: usize) {
-    let mut times: [u32; 6] = [9999; 6];
-    let mut energies: [u32; 6] = [9999; 6];
+    let mut times = [9999; 6];
+    let mut energies = [9999; 6];
     if room > 6 {
         return;
     }
@@ -94,7 +69,7 @@ fn list(net: &[u8], labels: &[u8], s: u32, t: u32, room: usize) {
     print(s);
     print(t);
     io::write_all(STANDARD_OUTPUT, b":");
-    let answer = labels::list(net, labels, s, t, &mut times[0..room], &mut energies);
+    let answer = labels::list(net, labels, s, t, &mut times[..room], &mut energies);
     print_list(answer);
     io::write_all(STANDARD_OUTPUT, b" |");
     print_all(&times);
@@ -131,7 +106,7 @@ fn edges(net: &[u8], labels: &[u8]) {
 }
 
 fn batch(net: &[u8], labels: &[u8], queries: &[u32; 6]) {
-    let mut answers: [u32; 6] = [9999; 6];
+    let mut answers = [9999; 6];
     let number = labels::batch(net, labels, queries, &mut answers);
     io::write_all(STANDARD_OUTPUT, b"batch:");
     print(number);
@@ -147,12 +122,10 @@ fn batches(net: &[u8], labels: &[u8]) {
 }
 
 fn run<R: Files>(files: &R, name: u8) {
-    let mut net = io::large_buffer();
-    let net_length = read_file(files, &[name, b'.', b'n', b'e', b't'], &mut net);
+    let mut network_bytes = io::large_buffer();
     let mut label_bytes = io::large_buffer();
-    let label_length = read_file(files, &[name, b'.', b'l', b'a', b'b'], &mut label_bytes);
-    let network = &net[0..net_length];
-    let labels = &label_bytes[0..label_length];
+    let network = read_start(files, &[name, b'.', b'n', b'e', b't'], &mut network_bytes);
+    let labels = read_start(files, &[name, b'.', b'l', b'a', b'b'], &mut label_bytes);
     io::write_all(STANDARD_OUTPUT, b"network ");
     io::write_all(STANDARD_OUTPUT, &[name]);
     io::write_all(STANDARD_OUTPUT, b", check:");
@@ -165,11 +138,7 @@ fn run<R: Files>(files: &R, name: u8) {
 
 // Network A, the square, two parts, one junction, two junctions without roads, and A without (6,3), E made 13 and left 14.
 fn main(rt: HostRuntime) {
-    run(&rt, b'a');
-    run(&rt, b's');
-    run(&rt, b'p');
-    run(&rt, b'o');
-    run(&rt, b't');
-    run(&rt, b'd');
-    run(&rt, b'e');
+    for name in b"aspotde" {
+        run(&rt, *name);
+    }
 }

@@ -1,10 +1,10 @@
 // Reading a file into a lent buffer: what cannot be opened or read counts as not there.
 #![tactic(auto)]
 
-ghost use Rattle.std.specs.Prelude.{take};
+ghost use Rattle.std.specs.Prelude.{◌≡◌, ◌≤◌, length, take};
 ghost use Rattle.std.specs.Io.KnownBytes.{Consumes};
 ghost use Rattle.io.specs.Counts.{IsPrefixLen};
-ghost use Rattle.reading.specs.Reading.{ReadFurther};
+ghost use Rattle.reading.specs.Reading.{ReadFurther, taken_length};
 
 use std::fs;
 use std::io::Read;
@@ -12,13 +12,8 @@ use std::rt::Files;
 
 // The file of a path, if it can be opened; a path whose bytes are no text names none.
 pub fn open<R: Files>(files: &R, path: &[u8]) -> Option<R::File> {
-    let Ok(name) = str::from_utf8(path) else {
-        return None;
-    };
-    match fs::open(files, name) {
-        Ok(file) => Some(file),
-        Err(_) => None,
-    }
+    let name = str::from_utf8(path).ok()?;
+    fs::open(files, name).ok()
 }
 
 // How many bytes one read puts at the buffer's start; none if it fails.
@@ -26,10 +21,7 @@ fn read_once<F: Read>(file: &mut F, buffer: &mut [u8]) -> usize
     ensures prefix { IsPrefixLen result buffer.new }
     ensures bytes { Consumes (F.remaining file.old) (F.remaining file.new) (take result buffer.new) }
 {
-    match file.read(buffer) {
-        Ok(count) => count,
-        Err(_) => 0,
-    }
+    file.read(buffer).unwrap_or(0)
 }
 
 // Reads until the buffer is full, the file ends or a read fails: how many bytes stand at the buffer's start.
@@ -38,23 +30,52 @@ pub fn read_full<F: Read>(file: &mut F, buffer: &mut [u8]) -> usize
     ensures bytes { Consumes (F.remaining file.old) (F.remaining file.new) (take result buffer.new) }
 {
     let mut done = 0;
+    // How far one turn goes is told by the read.
     while done < buffer.len() {
         let count = read_once(file, &mut buffer[done..]);
         if count == 0 {
-            return done;
+            break;
         }
         done += count;
     }
     done
 }
 
-// What one further read gives: how many bytes, or -1 if it fails.
-pub fn read_further<F: Read>(file: &mut F) -> isize
+// What one further read gives: how many bytes, or none if it fails.
+pub fn read_further<F: Read>(file: &mut F) -> Option<usize>
     ensures { ReadFurther (F.remaining file.old) (F.remaining file.new) result }
 {
-    let mut more: [u8; 1] = [0; 1];
-    match file.read(&mut more) {
-        Ok(count) => count as isize,
-        Err(_) => -1,
-    }
+    file.read(&mut [0; 1]).ok()
+}
+
+// How long a file is taken to be, from how many bytes were read and what one further read gave.
+#[tactic(auto, unfolding(crate::specs::Reading::taken_length))]
+fn taken_length(count: usize, further: Option<usize>) -> usize
+    ensures length { result ≡ taken_length count further }
+    ensures few { result ≤ count }
+{
+    if further == Some(0) { count } else { 0 }
+}
+
+// The first bytes of a path's file, as many as the buffer takes; none if it cannot be opened.
+pub fn read_start<'b, R: Files>(files: &R, path: &[u8], buffer: &'b mut [u8]) -> &'b [u8]
+    ensures { length result.now ≤ length buffer.old }
+{
+    let Some(mut file) = open(files, path) else {
+        return &buffer[..0];
+    };
+    let count = read_full(&mut file, buffer);
+    &buffer[..count]
+}
+
+// The bytes of a path's file, in the buffer; none if the file is longer than the buffer or cannot be read.
+pub fn read_file<'b, R: Files>(files: &R, path: &[u8], buffer: &'b mut [u8]) -> &'b [u8]
+    ensures { length result.now ≤ length buffer.old }
+{
+    let Some(mut file) = open(files, path) else {
+        return &buffer[..0];
+    };
+    let count = read_full(&mut file, buffer);
+    let further = read_further(&mut file);
+    &buffer[..taken_length(count, further)]
 }

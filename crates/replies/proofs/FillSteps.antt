@@ -1,4 +1,4 @@
--- The ways through a filled buffer: nothing yet, one reply more, no line left, no room left.
+-- The ways through a filled buffer: nothing yet, one reply more.
 use mathlib.Core.Path.{◌≡◌, refl, ◌∙◌}
 use mathlib.Core.Logic.{◌⊎◌, inl, inr, ⊎_elim}
 use mathlib.Core.List.{List}
@@ -8,7 +8,7 @@ use native.Mathlib.Omega.{arith}
 use lib.ListN.{length, take}
 use Rattle.text.specs.Lines.{LineEnds, line_of}
 use Rattle.replies.specs.Printed.{Replies, none, more}
-use Rattle.replies.specs.working.Buffer.{Replied, FilledTo}
+use Rattle.replies.specs.working.Buffer.{Replied}
 
 -- The replies so far stand in the first bytes of the buffer
 pub record Filling (net input : List ℕ) (from : ℕ) (out : List ℕ) (next used : ℕ) : Type 0 where
@@ -37,14 +37,3 @@ module _ {net input : List ℕ} {from : ℕ} where
           inside = omega (arith, replied.put.ends, replied.short);
           begun = inr (omega (arith, not_back, ends.forward));
         }
-
-    filled : (from < length input → from < next) → FilledTo net input from out next used
-    filled onward = record { replies = held.replies; inside = omega (arith, held.room, held.inside); onward = onward; places = held.room }
-
-    -- no line left
-    pub filled_all : length input ≤ next → FilledTo net input from out next used
-    filled_all ended = filled (λ some. ⊎_elim (λ z. absurd (omega (arith, z.0))) (λ z. z) held.begun)
-
-    -- no room left
-    pub filled_full : 53248 < used → FilledTo net input from out next used
-    filled_full full = filled (λ some. ⊎_elim (λ z. absurd (omega (arith, z.1))) (λ z. z) held.begun)

@@ -1,5 +1,5 @@
 -- The first line: the heading of an accepted set, or the refusal.
-use mathlib.Core.Path.{◌≡◌, refl, ◌∙◌}
+use mathlib.Core.Path.{◌≡◌, ◌∙◌}
 use mathlib.Core.List.{List}
 use Prim.Native.Nat.{ℕ, ◌≤◌}
 use native.Mathlib.Omega.{arith}
@@ -20,10 +20,10 @@ module _ {net labels depths tables : List ℕ} {number : ℕ} (accepting : Accep
   pub labels-long : number ≡ 0 → 16 ≤ length labels
   labels-long zero = omega (arith, (ready_for_queries accepting zero).beside.formed.parents.inside)
 
-  pub first-refused :
+  pub first_refused :
       {before after : List ℕ} {end : ℕ} → (number ≡ 0 → ⊥) → length before ≡ 65536 → Put before 0 (refused_line number) 64 after end →
       FirstLine net labels depths tables after number end
-  first-refused some long line =
+  first_refused some long line =
       record {
         accepting = accepting;
         heading = λ zero. absurd (some zero);
@@ -32,15 +32,15 @@ module _ {net labels depths tables : List ℕ} {number : ℕ} (accepting : Accep
         places = line.put.one_length ∙ long;
       }
 
-  pub first-heading :
+  pub first_heading :
       {before after : List ℕ} {end junctions roads entries : ℕ} → number ≡ 0 → length before ≡ 65536 →
       Read16 (junctions_of net) junctions → roads ≡ roads_of net → entries ≡ entries_of labels → Put before 0 (heading_line junctions roads entries) 64 after end →
-      FirstLine net labels depths tables after 0 end
-  first-heading zero long read e f line =
+      FirstLine net labels depths tables after number end
+  first_heading zero long read e f line =
       record {
-        accepting = rw zero at accepting;
+        accepting = accepting;
         heading = λ z. line.put.holds ∙ (λ i. heading_line (read.is i) (e i) (f i));
-        refusal = λ some. absurd (some refl);
+        refusal = λ some. absurd (some zero);
         inside = omega (arith, line.short, line.put.one_length);
         places = line.put.one_length ∙ long;
       }

@@ -1,46 +1,16 @@
 -- The ways through what is handed on: nothing yet, one filled buffer more, all replies; the first line alone, or with the replies.
 -- At the end: no second count meets the statement of what is handed on.
-use mathlib.Core.Path.{◌≡◌, refl, sym, ap, ◌∙◌}
+use mathlib.Core.Path.{◌≡◌, sym, ap, ◌∙◌}
 use mathlib.Core.List.{List, [], ◌++◌}
-use Prim.Native.Nat.{ℕ, zero, suc, ◌+◌, ◌*◌, ◌≤◌, ◌<◌}
+use Prim.Native.Nat.{ℕ, ◌+◌, ◌*◌, ◌≤◌, ◌<◌}
 use native.Mathlib.Omega.{arith}
-use mir.Syntax.{w64}
-use mir.Val.{SFits, of_z, to_z}
-use mir.Facts.{to_z-of_z}
-use lib.IntN.{ℤ, pos, negsuc}
 use lib.ListN.{length, take, length-append}
 use lib.Seq.{length-take-le}
-use Rattle.io.specs.Counts.{IsPrefixLen}
 use Rattle.replies.specs.Printed.{Replies, none, more}
-use Rattle.replies.specs.HandedOn.{taken_length, RepliesHandedOn, PrintedHandedOn}
+use Rattle.replies.specs.HandedOn.{RepliesHandedOn, PrintedHandedOn}
 use Rattle.replies.specs.working.Buffer.{FirstLine, FilledTo, FirstBytes}
 use Rattle.replies.proofs.PrintedParts.{buffer_then, refused-printed, answered-printed}
 use Rattle.replies.proofs.RepliesUnique.{printed_unique}
-
--- ---- A file's length
-
-pub taken_inside : (count : ℕ) (rest : ℤ) → taken_length count rest ≤ count
-unfolding taken_length
-taken_inside count (pos zero) = omega arith
-taken_inside count (pos (suc n)) = omega arith
-taken_inside count (negsuc n) = omega arith
-
-pub taken_counts : (buffer : List ℕ) (count : ℕ) (rest : ℤ) {r : ℕ} → count ≤ length buffer → r ≡ taken_length count rest → IsPrefixLen r buffer
-taken_counts buffer count rest {r} inside e =
-    let h : r ≤ length buffer = omega (arith, taken_inside count rest) in
-    (h, sym (length-take-le r buffer h))
-
--- the further read found the end
-pub taken_whole : (count : ℕ) (rest : ℤ) → SFits w64 rest → of_z w64 rest ≡ 0 → count ≡ taken_length count rest
-unfolding taken_length
-taken_whole count rest fits e = let whole : rest ≡ pos 0 = sym (to_z-of_z fits) ∙ ap (to_z w64) e in rw whole refl
-
--- it found a byte, or it failed
-pub taken_none : (count : ℕ) (rest : ℤ) → (of_z w64 rest ≡ 0 → ⊥) → 0 ≡ taken_length count rest
-unfolding taken_length
-taken_none count (pos zero) some = absurd (some refl)
-taken_none count (pos (suc n)) some = refl
-taken_none count (negsuc n) some = refl
 
 -- ---- The replies
 

@@ -5,8 +5,8 @@ use mathlib.Core.List.{List, [], ◌∷◌, ◌++◌, append_assoc, append-nil}
 use Prim.Native.Nat.{ℕ, zero, suc, ◌+◌, ◌-◌, ◌*◌, ◌≤◌, ◌<◌}
 use native.Mathlib.Numerals.{add-one}
 use native.Mathlib.Omega.{arith}
-use lib.ListN.{length, get_or, take, drop}
-use lib.Seq.{take-suc, length-take-le, drop-append-le}
+use lib.ListN.{length, get_or, take, drop, length-drop}
+use lib.Seq.{take-suc, length-take-le, drop-append-le, get_or-take, get_or-drop}
 use Rattle.text.specs.Numbers.{numeral, space_byte}
 use Rattle.text.specs.Lines.{newline_byte}
 use Rattle.text.specs.working.Writing.{Appended}
@@ -44,8 +44,8 @@ pub next_put :
 next_put j hyphen number = put_then (put_byte_known hyphen) (put_numeral_known j number)
 
 -- behind a number there is room for a byte
-pub behind-numeral : {b m : List ℕ} {at e : ℕ} (n : ℕ) → at + 11 ≤ length b → Appended b at (numeral n) m e → e < length m
-behind-numeral n room a = omega (arith, a.one_length, a.ends, numeral-length n)
+pub behind_numeral : {b m : List ℕ} {at e : ℕ} (n : ℕ) → at + 11 ≤ length b → Appended b at (numeral n) m e → e < length m
+behind_numeral n room a = omega (arith, a.one_length, a.ends, numeral-length n)
 
 -- ---- A route
 
@@ -93,6 +93,21 @@ route-more {js = js} {i = i} held below more =
     step =
         rw (add-one, take-suc js i 0 (omega (arith, held.inside)))
         (drop-append-le 1 (take i js) (get_or js i 0 ∷ []) (omega (arith, length-take-le i js (omega (arith, held.inside, held.few)), held.some)))
+
+-- the junctions behind the first
+pub behind-length : (count : ℕ) (js : List ℕ) → count ≤ 1024 → length js ≡ 1024 → length (take (count - 1) (drop 1 js)) ≡ count - 1
+behind-length count js few inside = length-take-le (count - 1) (drop 1 js) (omega (arith, length-drop 1 js))
+
+pub route-behind :
+    {b js now after : List ℕ} {at end next count k : ℕ} → RoutePut b at js now (k + 1) end → count ≤ 1024 → k < count - 1 →
+    Put now end (hyphen_byte ∷ numeral (get_or (take (count - 1) (drop 1 js)) k 0)) 11 after next → RoutePut b at js after (k + 1 + 1) next
+route-behind {js = js} {count = count} {k = k} held few below put = route-more held (omega arith) (rw here at put)
+  where
+    back : 1 + k ≡ k + 1
+    back = omega arith
+
+    here : get_or (take (count - 1) (drop 1 js)) k 0 ≡ get_or js (k + 1) 0
+    here = get_or-take (count - 1) (drop 1 js) k 0 below ∙ get_or-drop 1 js k 0 ∙ ap (λ (n : ℕ). get_or js n 0) back
 
 pub route-room : {b js now : List ℕ} {at i end : ℕ} → RoutePut b at js now i end → i < 1024 → end + 11 ≤ length now
 route-room held below = omega (arith, held.room, held.some, held.so_far.short, held.so_far.put.one_length)
@@ -155,10 +170,10 @@ found_line_put {route = route} s t limit time energy words way rest =
     put_as (line_is s t limit 0 time energy route) (omega arith) (put_then words (put_then way (put_byte_known rest)))
 
 pub heading_put :
-    {b m m₂ m₃ m₄ m₅ a : List ℕ} {e e₂ e₃ e₄ e₅ f : ℕ} (n roads E : ℕ) →
-    Appended b 0 (network_word ++ (space_byte ∷ [])) m e → Put m e (word n) 11 m₂ e₂ → Put m₂ e₂ (word roads) 11 m₃ e₃ →
+    {b m m₂ m₃ m₄ m₅ a : List ℕ} {at e e₂ e₃ e₄ e₅ f : ℕ} (n roads E : ℕ) →
+    Appended b at (network_word ++ (space_byte ∷ [])) m e → Put m e (word n) 11 m₂ e₂ → Put m₂ e₂ (word roads) 11 m₃ e₃ →
     Appended m₃ e₃ (labels_word ++ (space_byte ∷ [])) m₄ e₄ → Appended m₄ e₄ (numeral E) m₅ e₅ → Appended m₅ e₅ (newline_byte ∷ []) a f →
-    Put b 0 (heading_line n roads E) 64 a f
+    Put b at (heading_line n roads E) 64 a f
 unfolding heading_line
 heading_put n roads E p q r u v w =
     put_as refl (omega arith)
@@ -168,9 +183,9 @@ heading_put n roads E p q r u v w =
     (word_then labels_word (put_known {most = 7} (omega arith) u) (put_then (put_numeral_known E v) (put_byte_known w))))))
 
 pub refused_put :
-    {b m k a : List ℕ} {e g f : ℕ} (number : ℕ) →
-    Appended b 0 (refused_word ++ (space_byte ∷ [])) m e → Appended m e (numeral number) k g → Appended k g (newline_byte ∷ []) a f →
-    Put b 0 (refused_line number) 64 a f
+    {b m k a : List ℕ} {at e g f : ℕ} (number : ℕ) →
+    Appended b at (refused_word ++ (space_byte ∷ [])) m e → Appended m e (numeral number) k g → Appended k g (newline_byte ∷ []) a f →
+    Put b at (refused_line number) 64 a f
 unfolding refused_line
 refused_put number p q r =
     put_as refl (omega arith) (word_then refused_word (put_known {most = 8} (omega arith) p) (put_then (put_numeral_known number q) (put_byte_known r)))

@@ -1,16 +1,16 @@
 -- The cases of a reply: a bad line, a query without an answer, a found pair with its route.
 use mathlib.Core.Path.{◌≡◌, refl, sym, ap, ◌∙◌}
-use mathlib.Core.Logic.{◌⊎◌, inl, inr}
 use mathlib.Core.List.{List}
 use Prim.Native.Nat.{ℕ, zero, suc, ◌≤◌}
 use native.Mathlib.Omega.{arith}
 use lib.ListN.{length, take}
+use Rattle.std.proofs.Common.{Some, None}
+use Rattle.std.proofs.lemmas.Option.{none-some}
 use Rattle.text.specs.Lines.{line_of}
 use Rattle.text.specs.Queries.{IsQuery, BadLine}
 use Rattle.text.specs.working.Reading.{query, bad}
 use Rattle.text.specs.working.Reading.{QueryRead}
-use Rattle.text.specs.declared.QueryLine.{QueryLine}
-use Rattle.text.specs.declared.QueryLine.TheVariants as line
+use Rattle.text.specs.declared.Query.{Query}
 use Rattle.text.proofs.LineParts.{line-whole}
 use Rattle.paths.specs.Weights.{pair}
 use Rattle.paths.specs.Network.{Walk, stay, go, junctions}
@@ -70,29 +70,15 @@ module _ {net before after : List ℕ} {at end s t limit : ℕ} where
 pub bad_replied : {net text before after : List ℕ} {at end : ℕ} → BadLine text → Put before at bad_line 15 after end → Replied net text before at after end
 bad_replied h line = record { bytes = bad_line; put = line.put; is = reply.bad h refl; short = omega (arith, line.short, line.put.ends) }
 
--- ---- What was read
+-- ---- What was read, of a line from its first byte to its last
 
--- a line is read from its first byte to its last
-pub read_whole : {line : List ℕ} {r : QueryLine} → QueryRead (line_of line 0 (length line)) r → QueryRead line r
-read_whole told = rw line-whole at told
+pub query_line : {text : List ℕ} {asked : Query} → QueryRead (line_of text 0 (length text)) (Some asked) → IsQuery text asked.start asked.finish asked.limit
+query_line {text} {asked} (query s t limit h e) = let same : asked ≡ record { start = s; finish = t; limit = limit } = cc in rw same (rw line-whole at h)
+query_line (bad n e) = absurd (none-some _ (sym e))
 
-pub read-query : {text : List ℕ} {r : QueryLine} {s t limit : ℕ} → QueryRead text r → r ≡ line.Query s t limit → IsQuery text s t limit
-read-query {text} (query s t limit h e) f = same (sym e ∙ f) h
-  where
-    same : {s t limit s' t' limit' : ℕ} → line.Query s t limit ≡ line.Query s' t' limit' → IsQuery text s t limit → IsQuery text s' t' limit'
-    same {s} {t} {limit} {s'} {t'} {limit'} g h = let a : s ≡ s' = cc in let b : t ≡ t' = cc in let c : limit ≡ limit' = cc in rw (a, b, c) at h
-read-query (bad n e) f = let z : ◌≡◌ {A = ℕ} 0 1 = cc in absurd (omega arith)
-
--- a line that was not read as a query is bad
-pub record ReadAsQuery (r : QueryLine) : Type 0 where
-  pub s : ℕ
-  pub t : ℕ
-  pub limit : ℕ
-  pub is : r ≡ line.Query s t limit
-
-pub query_or_bad : {text : List ℕ} {r : QueryLine} → QueryRead text r → ReadAsQuery r ⊎ BadLine text
-query_or_bad (query s t limit h e) = inl (record { s = s; t = t; limit = limit; is = e })
-query_or_bad (bad n e) = inr n
+pub no_query_line : {text : List ℕ} → QueryRead (line_of text 0 (length text)) None → BadLine text
+no_query_line (query s t limit h e) = absurd (none-some _ e)
+no_query_line (bad n e) = rw line-whole at n
 
 -- ---- What was answered
 

@@ -1,13 +1,6 @@
 -- What the program takes in and hands on, in all that a contract can say: no contract knows what stands behind a descriptor.
-use Rattle.std.specs.Prelude.{◌≡◌, List, ℕ, zero, suc, ◌+◌, ◌≤◌, ℤ, pos, negsuc, length}
+use Rattle.std.specs.Prelude.{◌≡◌, List, ℕ, ◌+◌, ◌≤◌, length}
 use Rattle.replies.specs.Printed.{Replies, Printed}
-
--- How long a file is taken to be (SCOPE 6.1), from how many of its bytes were read and what one further read gave: 0 at the file's end.
--- A file that goes on, or that cannot be read, counts as an empty one.
-unfoldable pub taken_length : ℕ → ℤ → ℕ
-taken_length count (pos zero) = count
-taken_length count (pos (suc more)) = 0
-taken_length count (negsuc failed) = 0
 
 -- Behind the bytes handed on before, the replies to all lines of the input are handed on (SCOPE 6.3): from its first byte to its end
 pub record RepliesHandedOn (net input : List ℕ) (before total : ℕ) : Type 0 where

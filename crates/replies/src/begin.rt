@@ -8,8 +8,10 @@ use crate::lines::{put_heading, put_refused};
 use accepted::accept::accept;
 use forest::parents::entries_of;
 use network::header::{junctions_of, roads_of};
+use text::write::Writer;
 
 // Checks the files once and puts the heading, or the refusal, at the start of the buffer.
+#[tactic(auto, using(crate::proofs::FirstLines::first_refused, crate::proofs::FirstLines::first_heading))]
 pub fn begin(
     net: &[u8],
     labels: &[u8],
@@ -22,17 +24,26 @@ pub fn begin(
     ensures { FirstLine net.now labels.now depths.new tables.new
         out.new result.number result.used }
 {
-    let number = accept(net, labels, depths, tables);
-    if number != 0 {
-        let refused = put_refused(out, number);
-        return Begun {
-            number: number,
-            used: refused,
-        };
-    }
-    let heading = put_heading(out, junctions_of(net), roads_of(net), entries_of(labels));
-    Begun {
-        number: 0,
-        used: heading,
+    let mut writer = Writer { out, used: 0 };
+    match accept(net, labels, depths, tables) {
+        Ok(()) => {
+            put_heading(
+                &mut writer,
+                junctions_of(net),
+                roads_of(net),
+                entries_of(labels),
+            );
+            Begun {
+                number: 0,
+                used: writer.used,
+            }
+        }
+        Err(refusal) => {
+            put_refused(&mut writer, refusal.number());
+            Begun {
+                number: refusal.number(),
+                used: writer.used,
+            }
+        }
     }
 }

@@ -1,15 +1,7 @@
 // What the program `answer` prints: one reply for each query line, on files that were checked once.
 #![tactic(auto)]
 
-// The three numbers of a query line.
-#[derive(Clone, Copy)]
-pub struct Query {
-    pub start: u32,
-    pub finish: u32,
-    pub limit: u32,
-}
-
-// The check's number, and how many bytes of the buffer the first line takes.
+// The check's number, and how many bytes of the buffer the first line takes. No Result: a refusal has a line, and so a length, too.
 #[derive(Clone, Copy)]
 pub struct Begun {
     pub number: u32,

@@ -6,7 +6,7 @@ use native.Mathlib.Decide.{dec_le}
 use native.Mathlib.Omega.{arith}
 use lib.ListN.{length, get_or}
 use Rattle.text.specs.Numbers.{zero_byte, value_after, IsDigit}
-use Rattle.text.specs.working.Reading.{most_number, Longer, Spelled, DigitsTo, DigitsRead}
+use Rattle.text.specs.working.Reading.{most_number, Longer, Spelled, DigitsTo}
 use Rattle.text.proofs.LineSteps.{between_more}
 use Rattle.text.proofs.LineParts.{line-empty, line-more}
 
@@ -61,11 +61,4 @@ module _ {input : List ℕ} {start : ℕ} where
           inside = omega arith;
           digits = between_more (λ i. IsDigit (get_or input i 0)) so_far.digits is;
           spelled = spelled-more (get_or input to 0) so_far.spelled longer e (line-more input start to so_far.forward below);
-        }
-
-    pub digits_stop : {end : ℕ} → to ≤ end → (to < end → IsDigit (get_or input to 0) → ⊥) → DigitsRead input start end value to
-    digits_stop h stop =
-        record {
-          run = record { forward = so_far.forward; inside = h; digits = so_far.digits; stops = stop };
-          spelled = so_far.spelled;
         }

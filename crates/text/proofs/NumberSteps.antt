@@ -1,26 +1,17 @@
 -- A number is its digits' whole run. In this order: one run, one number; bytes and their places; the ways to read one.
 use mathlib.Core.Path.{◌≡◌, refl, sym, ap, ◌∙◌, subst}
 use mathlib.Core.Logic.{◌⊎◌, inl, inr}
-use mathlib.Core.Bool.{Bool, true, false, not}
 use mathlib.Core.List.Memᴰ
 use mathlib.Core.List.{List, [], ◌∷◌, Memᴰ}
 use Prim.Native.Nat.{ℕ, zero, suc, ◌+◌, ◌-◌, ◌≤◌, ◌<◌}
 use native.Mathlib.Omega.{arith}
-use borrow.Author.Tests.{not-true, not-false}
 use lib.ListN.{length, get_or}
 use Rattle.text.specs.Numbers.{zero_byte, IsDigit, IsNumeral}
 use Rattle.text.specs.Lines.{line_of}
-use Rattle.text.specs.working.Reading.{most_number, Fits, DigitRun, DigitsRead, NumberAt, NumberRead, read, bad}
-use Rattle.text.specs.declared.read.Number.{Number}
-use Rattle.text.specs.declared.read.Number.TheVariants as number
+use Rattle.text.specs.working.Reading.{most_number, DigitRun, DigitsRead, NumberAt, NumberRead, read, bad}
+use Rattle.std.proofs.lemmas.Option.{none-some}
+use Rattle.std.specs.declared.option.Option.TheVariants.{Some, None}
 use Rattle.text.proofs.LineParts.{line-length, line_at}
-
--- what a test for a number that is too large says
-pub not_fitting : {value : ℕ} {answer : Bool} → Fits value answer → not answer ≡ true → most_number < value
-not_fitting {answer = answer} told t = told.fails (not-true answer t)
-
-pub fitting : {value : ℕ} {answer : Bool} → Fits value answer → not answer ≡ false → value ≤ most_number
-fitting {answer = answer} told f = told.holds (not-false answer f)
 
 pub numeral_unique : {bytes : List ℕ} {a b : ℕ} → IsNumeral bytes a → IsNumeral bytes b → a ≡ b
 numeral_unique p q = sym p.value ∙ q.value
@@ -84,24 +75,24 @@ module _ {input : List ℕ} {start end : ℕ} where
     first h = let none : start - start ≡ 0 = omega arith in rw none at (line_at input start next told.run.forward start (omega arith) h)
 
     -- no digit
-    pub no_digits : next ≡ start → NumberRead input start end number.Bad
+    pub no_digits : next ≡ start → NumberRead input start end None
     no_digits e = bad (λ a k n. let numeral = numeral-moved told.run n in omega (arith, long, numeral.some_digit)) refl
 
     -- a zero before other digits
-    pub leading-zero : start + 1 < next → get_or input start 0 ≡ zero_byte → NumberRead input start end number.Bad
-    leading-zero h e =
+    pub leading_zero : start + 1 < next → get_or input start 0 ≡ zero_byte → NumberRead input start end None
+    leading_zero h e =
         bad (λ a k n. (numeral-moved told.run n).no_leading_zero (omega (arith, long)) (first (omega arith) ∙ e)) refl
 
     -- a number that is too large
-    pub too_large : most_number < value → NumberRead input start end number.Bad
+    pub too_large : most_number < value → NumberRead input start end None
     too_large h =
         bad (λ a k n. let numeral = numeral-moved told.run n in omega (arith, numeral.value, numeral.fits, told.spelled.large h)) refl
 
     -- a number
-    pub number-stands :
+    pub number_stands :
         (next ≡ start → ⊥) → (start + 1 < next → get_or input start 0 ≡ zero_byte → ⊥) → value ≤ most_number →
-        NumberRead input start end (number.Read value next)
-    number-stands some no_zero h = read value next (record { run = told.run; numeral = numeral }) refl
+        NumberRead input start end (Some (value, next))
+    number_stands some no_zero h = read value next (record { run = told.run; numeral = numeral }) refl
       where
         digit : (i : ℕ) → i < length (line_of input start next) → IsDigit (get_or (line_of input start next) i 0)
         digit i k =
@@ -119,19 +110,12 @@ module _ {input : List ℕ} {start end : ℕ} where
               fits = h;
             }
 
-  module _ {r : Number} (told : NumberRead input start end r) where
-    -- what was read stands there
-    pub number_at : {a next : ℕ} → r ≡ number.Read a next → NumberAt input start end a next
-    number_at {a} {next} e = pick told
-      where
-        pick : NumberRead input start end r → NumberAt input start end a next
-        pick (read b k n f) = let x : a ≡ b = cc in let y : next ≡ k = cc in rw (x, y) n
-        pick (bad n f) = let z : ◌≡◌ {A = ℕ} 0 1 = cc in absurd (omega arith)
+  -- what was read stands there
+  pub number_at : {a next : ℕ} → NumberRead input start end (Some (a, next)) → NumberAt input start end a next
+  number_at {a} {next} (read b k n f) = let same : ◌≡◌ {A = ℕ × ℕ} (a, next) (b, k) = cc in let x : a ≡ b = ap (λ p. p.0) same in let y : next ≡ k = ap (λ p. p.1) same in rw (x, y) n
+  number_at (bad n f) = absurd (none-some _ (sym f))
 
-    -- where nothing was read, nothing stands
-    pub no_number : r ≡ number.Bad → (a next : ℕ) → NumberAt input start end a next → ⊥
-    no_number e a next here = pick told
-      where
-        pick : NumberRead input start end r → ⊥
-        pick (read b k n f) = let z : ◌≡◌ {A = ℕ} 0 1 = cc in absurd (omega arith)
-        pick (bad n f) = n a next here
+  -- where nothing was read, nothing stands
+  pub no_number : NumberRead input start end None → (a next : ℕ) → NumberAt input start end a next → ⊥
+  no_number (read b k n f) a next here = absurd (none-some _ f)
+  no_number (bad n f) a next here = n a next here

@@ -10,7 +10,7 @@ use Rattle.text.specs.Queries.{IsQuery}
 use Rattle.text.specs.working.Reading.{query, bad}
 use Rattle.text.specs.working.Reading.{QueryRead}
 use Rattle.text.specs.working.Reading.{NumberAt, SpaceAt, QueryAt}
-use Rattle.text.specs.declared.QueryLine.TheVariants as case
+use Rattle.std.specs.declared.option.Option.TheVariants.{Some, None}
 use Rattle.text.proofs.LineParts.{Cut, line_cut, line-split}
 use Rattle.text.proofs.NumberSteps.{number_unique, numeral_at}
 
@@ -59,11 +59,11 @@ module _ {input : List ℕ} {start end : ℕ} (forward : start ≤ end) (fits : 
           ∙ ap (λ (byte : ℕ). line_of input from at ++ (byte ∷ line_of input (at + 1) end)) space.space
 
   -- a line without places is bad
-  no_query : ((s t limit : ℕ) → QueryAt input start end s t limit → ⊥) → QueryRead (line_of input start end) case.Bad
+  no_query : ((s t limit : ℕ) → QueryAt input start end s t limit → ⊥) → QueryRead (line_of input start end) None
   no_query none = bad (λ s t limit q. none s t limit (query_at q)) refl
 
   -- no first number
-  pub no_first : ((s next : ℕ) → NumberAt input start end s next → ⊥) → QueryRead (line_of input start end) case.Bad
+  pub no_first : ((s next : ℕ) → NumberAt input start end s next → ⊥) → QueryRead (line_of input start end) None
   no_first none = no_query (λ s t limit q. none s q.after_s q.first)
 
   module _ {s a : ℕ} (first : NumberAt input start end s a) where
@@ -71,14 +71,14 @@ module _ {input : List ℕ} {start end : ℕ} (forward : start ≤ end) (fits : 
     after_first q = (number_unique q.first first).one_end
 
     -- no space behind it
-    pub no_first_space : (SpaceAt input a end → ⊥) → QueryRead (line_of input start end) case.Bad
+    pub no_first_space : (SpaceAt input a end → ⊥) → QueryRead (line_of input start end) None
     no_first_space none = no_query (λ s' t limit q. none (subst (λ (k : ℕ). SpaceAt input k end) (after_first q) q.first_space))
 
     second_at : {s' t limit : ℕ} (q : QueryAt input start end s' t limit) → NumberAt input (a + 1) end t q.after_t
     second_at {t = t} q = subst (λ (k : ℕ). NumberAt input (k + 1) end t q.after_t) (after_first q) q.second
 
     -- no second number
-    pub no_second : ((t next : ℕ) → NumberAt input (a + 1) end t next → ⊥) → QueryRead (line_of input start end) case.Bad
+    pub no_second : ((t next : ℕ) → NumberAt input (a + 1) end t next → ⊥) → QueryRead (line_of input start end) None
     no_second none = no_query (λ s' t limit q. none t q.after_t (second_at q))
 
     module _ {t b : ℕ} (second : NumberAt input (a + 1) end t b) where
@@ -86,23 +86,23 @@ module _ {input : List ℕ} {start end : ℕ} (forward : start ≤ end) (fits : 
       after-second q = (number_unique (second_at q) second).one_end
 
       -- no space behind it
-      pub no_second_space : (SpaceAt input b end → ⊥) → QueryRead (line_of input start end) case.Bad
+      pub no_second_space : (SpaceAt input b end → ⊥) → QueryRead (line_of input start end) None
       no_second_space none = no_query (λ s' t' limit q. none (subst (λ (k : ℕ). SpaceAt input k end) (after-second q) q.second_space))
 
       third_at : {s' t' limit : ℕ} (q : QueryAt input start end s' t' limit) → NumberAt input (b + 1) end limit end
       third_at {limit = limit} q = subst (λ (k : ℕ). NumberAt input (k + 1) end limit end) (after-second q) q.third
 
       -- no third number
-      pub no_third : ((limit next : ℕ) → NumberAt input (b + 1) end limit next → ⊥) → QueryRead (line_of input start end) case.Bad
+      pub no_third : ((limit next : ℕ) → NumberAt input (b + 1) end limit next → ⊥) → QueryRead (line_of input start end) None
       no_third none = no_query (λ s' t' limit q. none limit end (third_at q))
 
       module _ {limit c : ℕ} (third : NumberAt input (b + 1) end limit c) where
         -- bytes left behind it
-        pub bytes_left : (c ≡ end → ⊥) → QueryRead (line_of input start end) case.Bad
+        pub bytes_left : (c ≡ end → ⊥) → QueryRead (line_of input start end) None
         bytes_left left = no_query (λ s' t' limit' q. left (number_unique third (third_at q)).one_end)
 
-        pub query-stands : SpaceAt input a end → SpaceAt input b end → c ≡ end → QueryRead (line_of input start end) (case.Query s t limit)
-        query-stands x y e =
+        pub query_stands : SpaceAt input a end → SpaceAt input b end → c ≡ end → QueryRead (line_of input start end) (Some (record { start = s; finish = t; limit = limit }))
+        query_stands x y e =
             query s t limit
             (query_of
             (record {

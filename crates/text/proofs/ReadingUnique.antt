@@ -9,7 +9,8 @@ use Rattle.text.specs.Queries.{IsQuery}
 use Rattle.text.specs.working.Reading.{query, bad}
 use Rattle.text.specs.working.Reading.{QueryRead}
 use Rattle.text.specs.working.Reading.{QueryAt}
-use Rattle.text.specs.declared.QueryLine.{QueryLine}
+use Rattle.std.specs.declared.option.Option.{Option}
+use Rattle.text.specs.declared.Query.{Query}
 use Rattle.text.proofs.LineParts.{line-whole}
 use Rattle.text.proofs.NumberSteps.{SameNumber, number_unique}
 use Rattle.text.proofs.QuerySteps.{query_at}
@@ -48,7 +49,7 @@ module _ {line : List ℕ} where
   query_unique p q = places_unique (whole_at p) (whole_at q)
 
   -- Nothing else can be read of a line
-  pub query_read_unique : {r r' : QueryLine} → QueryRead line r → QueryRead line r' → r ≡ r'
+  pub query_read_unique : {r r' : Option Query} → QueryRead line r → QueryRead line r' → r ≡ r'
   query_read_unique (query s t limit p e) (query s' t' limit' q f) = let same = query_unique p q in cc (same.same_s, same.same_t, same.same-limit)
   query_read_unique (query s t limit p e) (bad n f) = absurd (n s t limit p)
   query_read_unique (bad n e) (query s t limit p f) = absurd (n s t limit p)

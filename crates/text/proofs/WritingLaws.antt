@@ -4,12 +4,10 @@ use mathlib.Core.Path.{◌≡◌, refl, sym, ap, ◌∙◌}
 use mathlib.Core.Bool.{Bool, true, false, cond}
 use mathlib.Core.List.{List, [], ◌∷◌, ◌++◌, append_assoc, append-nil}
 use Prim.Native.Nat.{ℕ, zero, suc, ◌+◌, ◌-◌, ◌/◌, ◌%◌, ◌≤◌, ◌<◌}
-use native.Mathlib.Numerals.{add-one}
-use native.Mathlib.Nat.{add-zero, add_assoc}
 use native.Mathlib.Omega.{arith}
 use lib.Dec.{ltb}
-use lib.ListN.{length, get_or, take, drop, set, length-set, length-append, length-drop, drop_of_length-le}
-use lib.Seq.{take-suc, take-suc-set, drop-cons, drop-set-lt, get_or-set_same, length-take-le, take-length, take_all}
+use lib.ListN.{length, take, drop, set, length-set, length-append, drop_of_length-le}
+use lib.Seq.{drop-cons, drop-set-lt, get_or-set_same}
 use borrow.Author.Tests.{lt-ltb, le-ltb}
 use Rattle.text.specs.Numbers.{digits_before, numeral}
 use Rattle.text.specs.working.Writing.{Appended}
@@ -28,50 +26,6 @@ appended_then {b} {x} {m} {y} {a} {at} {e} {f} one two =
       one_length = two.one_length ∙ one.one_length;
       ends = omega (arith, one.ends, two.ends, length-append x y);
       holds = two.holds ∙ ap (λ (l : List ℕ). l ++ y) one.holds ∙ append_assoc (take at b) x y;
-    }
-
--- one byte
-pub appended_byte : {b : List ℕ} {at byte : ℕ} → at < length b → Appended b at (byte ∷ []) (set b at byte) (at + 1)
-appended_byte {b} {at} {byte} room =
-    record { one_length = length-set b at byte; ends = refl; holds = rw add-one (take-suc-set b at byte room) }
-
--- The first i bytes of a text are put
-pub record Copied (b : List ℕ) (at : ℕ) (text now : List ℕ) (i : ℕ) : Type 0 where
-  pub room : at + length text ≤ length b
-  pub inside : i ≤ length text
-  pub so_far : Appended b at (take i text) now (at + i)
-
-pub none_copied : {b text : List ℕ} {at : ℕ} → at + length text ≤ length b → Copied b at text b 0
-none_copied {b} {text} {at} room = record { room = room; inside = omega arith; so_far = rw add-zero (appended_none) }
-
--- one byte more
-pub one_copied : {b text now : List ℕ} {at i : ℕ} → Copied b at text now i → i < length text → Copied b at text (set now (at + i) (get_or text i 0)) (i + 1)
-one_copied {b} {text} {now} {at} {i} held below =
-    record {
-      room = held.room;
-      inside = omega arith;
-      so_far =
-          record {
-            one_length = two.one_length;
-            ends = omega (arith, length-take-le (i + 1) text (omega arith));
-            holds = rw (add_assoc at i 1, step) at two.holds;
-          };
-    }
-  where
-    two : Appended b at (take i text ++ (get_or text i 0 ∷ [])) (set now (at + i) (get_or text i 0)) (at + i + 1)
-    two = appended_then held.so_far (appended_byte (omega (arith, held.so_far.one_length, held.room)))
-
-    step : take i text ++ (get_or text i 0 ∷ []) ≡ take (i + 1) text
-    step = rw add-one (sym (take-suc text i 0 below))
-
--- the whole text
-pub all_copied : {b text now : List ℕ} {at i : ℕ} → Copied b at text now i → length text ≤ i → Appended b at text now (at + i)
-all_copied {b} {text} {now} {at} {i} held h =
-    let e : i ≡ length text = omega (arith, held.inside) in
-    record {
-      one_length = held.so_far.one_length;
-      ends = omega arith;
-      holds = held.so_far.holds ∙ ap (λ (l : List ℕ). take at b ++ l) (ap (λ (k : ℕ). take k text) e ∙ take-length text);
     }
 
 -- ---- Digits
@@ -125,11 +79,9 @@ module _ {number : ℕ} {places : List ℕ} {place rest digit : ℕ} (held : Spe
   all_spelled less = rw is (last-spelled before less)
 
 -- ten digits written
-pub ten_spelled : {number : ℕ} {places : List ℕ} {place rest : ℕ} → Spelling number places place rest → place ≤ 0 → Spelled number places place
+pub ten_spelled : {number : ℕ} {places : List ℕ} {rest : ℕ} → Spelling number places 0 rest → Spelled number places 0
 unfolding digits_before
-ten_spelled {number} {places} {place} {rest} held none =
-    let e : place ≡ 0 = omega arith in
-    record { ten = held.ten; inside = held.inside; holds = rw e (rw e at held.left) }
+ten_spelled held = record { ten = held.ten; inside = held.inside; holds = held.left }
 
 -- a number has ten digits at most
 digits_before-length : (fuel number : ℕ) (rest : List ℕ) → length (digits_before fuel number rest) ≤ fuel + length rest
@@ -147,12 +99,3 @@ digits_before-length (suc fuel) number rest =
 pub numeral-length : (n : ℕ) → length (numeral n) ≤ 10
 unfolding numeral
 numeral-length n = omega (arith, digits_before-length 10 n [])
-
--- the bytes from the first digit's place on
-pub numeral_put :
-    {number : ℕ} {places : List ℕ} {from : ℕ} {b after : List ℕ} {at end : ℕ} →
-    Spelled number places from → Appended b at (take (10 - from) (drop from places)) after end → Appended b at (numeral number) after end
-numeral_put {number} {places} {from} held put = rw whole at put
-  where
-    whole : take (10 - from) (drop from places) ≡ numeral number
-    whole = take_all (10 - from) (drop from places) (simp length-drop (omega (arith, held.ten))) ∙ held.holds

@@ -1,11 +1,12 @@
 // Decimal numbers, spaces and lines, as query lines and printed lines have them.
 #![tactic(auto)]
 
-// What a query line says: its three numbers, or that it is bad.
+// The three numbers of a query line.
 #[derive(Clone, Copy)]
-pub enum QueryLine {
-    Query(u32, u32, u32),
-    Bad,
+pub struct Query {
+    pub start: u32,
+    pub finish: u32,
+    pub limit: u32,
 }
 
 pub mod read;

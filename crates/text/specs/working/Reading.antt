@@ -1,35 +1,14 @@
--- What the reader of lines knows on its way: the kind of a byte, the digits read so far, the number they make, the space behind it.
-use Rattle.std.specs.Prelude.{◌≡◌, Bool, true, false, List, ℕ, ◌+◌, ◌-◌, ◌*◌, ◌≤◌, ◌<◌, length, get_or}
-use Rattle.text.specs.Numbers.{zero_byte, space_byte, value_after, IsDigit, IsNumeral}
-use Rattle.text.specs.Lines.{newline_byte, line_of}
+-- What the reader of lines knows on its way: the digits read so far, the number they make, the space behind it.
+use Rattle.std.specs.Prelude.{◌≡◌, Bool, true, false, List, ℕ, ◌+◌, ◌*◌, ◌≤◌, ◌<◌, length, get_or}
+use Rattle.text.specs.Numbers.{space_byte, value_after, IsDigit, IsNumeral}
+use Rattle.text.specs.Lines.{line_of}
 use Rattle.text.specs.Queries.{IsQuery, BadLine}
-use Rattle.text.specs.declared.QueryLine.{QueryLine}
-use Rattle.text.specs.declared.QueryLine.TheVariants as case
-use Rattle.text.specs.declared.read.Kind.{Kind}
-use Rattle.text.specs.declared.read.Kind.TheVariants as kind
-use Rattle.text.specs.declared.read.Number.{Number}
-use Rattle.text.specs.declared.read.Number.TheVariants as number
+use Rattle.std.specs.declared.option.Option.{Option}
+use Rattle.std.specs.declared.option.Option.TheVariants.{Some, None}
+use Rattle.text.specs.declared.Query.{Query}
 
 abbrev pub most_number : ℕ
 most_number = 4294967295
-
--- Digits, the space and the newline are told apart; any other byte spoils its line
-pub data KindOf (byte : ℕ) (r : Kind) : Type 0 where
-  digit : IsDigit byte → r ≡ kind.Digit (byte - zero_byte) → KindOf byte r
-  space : byte ≡ space_byte → r ≡ kind.Space → KindOf byte r
-  newline : byte ≡ newline_byte → r ≡ kind.Newline → KindOf byte r
-  other : (IsDigit byte → ⊥) → (byte ≡ space_byte → ⊥) → (byte ≡ newline_byte → ⊥) → r ≡ kind.Other → KindOf byte r
-
--- No newline stands from the line's start to a byte
-pub record NoNewline (input : List ℕ) (start to : ℕ) : Type 0 where
-  pub forward : start ≤ to
-  pub inside : to ≤ length input
-  pub none : (i : ℕ) → start ≤ i → i < to → get_or input i 0 ≡ newline_byte → ⊥
-
--- A value is told to be at most the largest number, or above it
-pub record Fits (value : ℕ) (answer : Bool) : Type 0 where
-  pub holds : answer ≡ true → value ≤ most_number
-  pub fails : answer ≡ false → most_number < value
 
 -- A value takes one digit more, unless it is too large already
 pub record Longer (value digit r : ℕ) : Type 0 where
@@ -65,9 +44,9 @@ pub record NumberAt (input : List ℕ) (start end number next : ℕ) : Type 0 wh
   pub numeral : IsNumeral (line_of input start next) number
 
 -- The number read and the byte behind it, or that the digits there are no number's
-pub data NumberRead (input : List ℕ) (start end : ℕ) (r : Number) : Type 0 where
-  read : (value next : ℕ) → NumberAt input start end value next → r ≡ number.Read value next → NumberRead input start end r
-  bad : ((value next : ℕ) → NumberAt input start end value next → ⊥) → r ≡ number.Bad → NumberRead input start end r
+pub data NumberRead (input : List ℕ) (start end : ℕ) (r : Option (ℕ × ℕ)) : Type 0 where
+  read : (value next : ℕ) → NumberAt input start end value next → r ≡ Some (value, next) → NumberRead input start end r
+  bad : ((value next : ℕ) → NumberAt input start end value next → ⊥) → r ≡ None → NumberRead input start end r
 
 -- A space stands at a byte of the line
 pub record SpaceAt (input : List ℕ) (at end : ℕ) : Type 0 where
@@ -89,6 +68,6 @@ pub record QueryAt (input : List ℕ) (start end s t limit : ℕ) : Type 0 where
   pub third : NumberAt input (after_t + 1) end limit end
 
 -- What was read of a line: its three numbers, or that it is bad
-pub data QueryRead (line : List ℕ) (r : QueryLine) : Type 0 where
-  query : (s t limit : ℕ) → IsQuery line s t limit → r ≡ case.Query s t limit → QueryRead line r
-  bad : BadLine line → r ≡ case.Bad → QueryRead line r
+pub data QueryRead (line : List ℕ) (r : Option Query) : Type 0 where
+  query : (s t limit : ℕ) → IsQuery line s t limit → r ≡ Some (record { start = s; finish = t; limit = limit }) → QueryRead line r
+  bad : BadLine line → r ≡ None → QueryRead line r

@@ -1,9 +1,9 @@
--- `replies::lines::put_bad_line` puts the bytes that the definition computes to.
+-- The line is spelled out.
+use Rattle.std.proofs.Common.{rules}
 use Rattle.text.specs.Numbers.{numeral, digits_before}
 use Rattle.replies.specs.Lines.{bad_line}
-use borrow.Author.Rules.{rules}
 use Rattle.replies.proofs.lines.put_bad_line.Goals as goal
 
-pub returns : goal.returns
+pub returns-clause-put : goal.returns-clause-put
 unfolding bad_line numeral digits_before
-returns c = search rules
+returns-clause-put c = record { put = c.put_bytes.ensures.put; short = search rules }

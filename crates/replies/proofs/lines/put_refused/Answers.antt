@@ -1,10 +1,6 @@
--- `replies::lines::put_refused` puts the word and the number.
-use native.Mathlib.Omega.{arith}
-use Rattle.replies.proofs.LineLaws.{refused_put, behind-numeral}
+-- The word, the number and the newline.
+use Rattle.replies.proofs.LineLaws.{refused_put}
 use Rattle.replies.proofs.lines.put_refused.Goals as goal
 
-pub put_byte-requires : goal.put_byte-requires
-put_byte-requires c = behind-numeral _ (omega arith) c.put_numeral-behind_number.ensures
-
-pub returns : goal.returns
-returns c = search (refused_put)
+pub returns-clause-put : goal.returns-clause-put
+returns-clause-put c = refused_put _ c.put_bytes.ensures.put c.put_numeral.ensures.put c.put_byte.ensures.put

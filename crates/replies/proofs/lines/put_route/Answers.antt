@@ -1,17 +1,17 @@
--- `replies::lines::put_route` puts junction after junction: each turn is `route-more`.
-use native.Mathlib.Omega.{arith}
-use Rattle.replies.proofs.LineLaws.{route-start, route-more, route-room, route-whole}
-use borrow.Author.Rules.{rules}
+-- Each turn puts one junction more (`route-behind`).
+use Rattle.std.proofs.Common.{arith, refl}
+use Rattle.replies.proofs.LineLaws.{route-start, route-behind, route-whole, behind-length}
 use Rattle.replies.proofs.lines.put_route.Goals as goal
 
-pub loop-i-init : goal.loop-i-init
-loop-i-init c = (search rules, search (route-start))
+pub loop-junction-init : goal.loop-junction-init
+loop-junction-init c = (route-start _ c.requires.at_in_bounds c.requires.le_count.2 c.put_numeral.ensures.put, refl)
 
-pub put_next-end-requires : goal.put_next-end-requires
-put_next-end-requires c = route-room c.loop-i.invariant.1 (omega arith)
+pub loop-junction-preserved : goal.loop-junction-preserved
+loop-junction-preserved c =
+    let long = behind-length c.args.count c.args.junctions.now c.requires.le_count.1 c.requires.le_count.2 in
+    (route-behind c.loop-junction.invariant.0 c.requires.le_count.1 (omega arith) c.put_next.ensures.put, cc)
 
-pub loop-i-preserved : goal.loop-i-preserved
-loop-i-preserved c = (search rules, route-more c.loop-i.invariant.1 (omega arith) c.put_next-end.ensures)
-
-pub returns : goal.returns
-returns c = search (route-whole)
+pub returns-clause-put : goal.returns-clause-put
+returns-clause-put c =
+    let long = behind-length c.args.count c.args.junctions.now c.requires.le_count.1 c.requires.le_count.2 in
+    route-whole c.put_numeral.ensures.put c.loop-junction.invariant.0 (omega arith) (omega arith)

@@ -1,10 +1,8 @@
--- `replies::lines::put_route` puts junction after junction: each turn is `route-more`.
-use Prim.Native.Nat.{◌≤◌, ◌-◌}
+-- The junctions so far are put.
+use Rattle.std.proofs.Common.{◌≡◌, ◌+◌}
 use Rattle.replies.proofs.LineLaws.{RoutePut}
 use Rattle.replies.proofs.lines.put_route.Given as goal
 
-abbrev pub invariant-loop-i : goal.invariant-loop-i
-invariant-loop-i l = (l.i ≤ l.count) × RoutePut l.initial.out l.initial.end l.junctions l.out l.i l.end
-
-abbrev pub decreases-loop-i : goal.decreases-loop-i
-decreases-loop-i l = l.count - l.i
+abbrev pub invariant-loop-junction : goal.invariant-loop-junction
+invariant-loop-junction l = RoutePut l.initial.writer.out.now l.initial.writer.used l.junctions l.writer.out.now (l.junction-index + 1) l.writer.used
+    × (l.writer.out.ghost_name ≡ l.initial.writer.out.ghost_name)

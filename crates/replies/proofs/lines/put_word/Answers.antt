@@ -1,9 +1,6 @@
--- `replies::lines::put_word` puts a number and a space.
-use Rattle.replies.proofs.LineLaws.{word_put, behind-numeral}
+-- A number and a space are a word.
+use Rattle.replies.proofs.LineLaws.{word_put}
 use Rattle.replies.proofs.lines.put_word.Goals as goal
 
-pub put_byte-requires : goal.put_byte-requires
-put_byte-requires c = search (behind-numeral)
-
-pub returns : goal.returns
-returns c = search (word_put)
+pub returns-clause-put : goal.returns-clause-put
+returns-clause-put c = word_put _ c.put_numeral.ensures.put c.put_byte.ensures.put

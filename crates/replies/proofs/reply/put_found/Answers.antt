@@ -14,5 +14,5 @@ pub put_found_line-requires : goal.put_found_line-requires
 put_found_line-requires c = let sized = route-sized c.route-count.ensures.route_found in
     record { le_count = (sized.some, omega (arith, sized.few, c.route-count.ensures.junctions_len_2), c.route-count.ensures.junctions_len_2); at_in_bounds = c.requires.at_in_bounds }
 
-pub returns : goal.returns
-returns c = search (found_replied)
+pub returns-clause-put : goal.returns-clause-put
+returns-clause-put c = found_replied c.requires.answers c.route-count.ensures.route_found c.put_found_line.ensures.put

@@ -1,12 +1,9 @@
--- `replies::reply::reply`: a line is read as a query, or it is bad.
-use mathlib.Core.Logic.{⊎_elim}
-use Rattle.replies.proofs.ReplyCases.{read_whole, query_or_bad, bad_replied, read-query, query_replied}
+-- A line is read as a query, or it is bad.
+use Rattle.replies.proofs.ReplyCases.{query_line, no_query_line, bad_replied, query_replied}
 use Rattle.replies.proofs.reply.reply.Goals as goal
 
-pub returns-in_default : goal.returns-in_default
-returns-in_default c = ⊎_elim (λ w. absurd (c.in_default.not-Query _ _ _ w.is))
-    (λ w. bad_replied w c.put_bad_line.ensures)
-    (query_or_bad (read_whole c.read_query-read.ensures))
+pub returns-in-Some-clause-put : goal.returns-in-Some-clause-put
+returns-in-Some-clause-put c = query_replied (query_line c.in-Some.ensures) c.reply_query.ensures.put
 
-pub returns : goal.returns
-returns c = search (query_replied, read-query, read_whole)
+pub returns-in-None-clause-put : goal.returns-in-None-clause-put
+returns-in-None-clause-put c = bad_replied (no_query_line c.in-None.ensures) c.put_bad_line.ensures.put

@@ -1,23 +1,24 @@
--- The digits are a number unless there is none, a zero leads others, or their value is too large.
-use Rattle.std.proofs.lemmas.Bool.{not_from_false, not_from_true}
-use native.Mathlib.Omega.{arith}
-use Rattle.text.proofs.NumberSteps.{fitting, not_fitting, no_digits, leading-zero, too_large, number-stands}
+-- The digits are a number unless there is none, their value is too large, or a zero leads others.
+use Rattle.std.proofs.Common.{arith}
+use Rattle.text.proofs.NumberSteps.{no_digits, leading_zero, too_large, number_stands}
 use Rattle.text.proofs.read.read_number.Goals as goal
-use Rattle.text.proofs.read.read_number.Goals.{then-next-start-2+else-input-start-eq48, else-next-start-2}
+use Rattle.text.proofs.read.read_number.Goals.{then-next-start-via-then-next-start, then-next-start-via-else-next-start+then-value-gt-MOST, else-next-start-2-via-then-next-start-2+else-input-start-eq48, else-next-start-2-via-else-next-start-2}
 
 pub returns-then-next-start : goal.returns-then-next-start
-returns-then-next-start c = no_digits (omega arith) c.read_digits-digits.ensures (omega arith)
+returns-then-next-start c =
+    elim c.then-next-start.branch [
+      | then-next-start-via-then-next-start w ↦ no_digits c.requires.1 c.read_digits-value.ensures w.if-next-start.true
+      | then-next-start-via-else-next-start+then-value-gt-MOST w ↦ too_large c.requires.1 c.read_digits-value.ensures w.if-value-gt-MOST.true
+    ]
 
 pub returns-then-input-start-eq48 : goal.returns-then-input-start-eq48
-returns-then-input-start-eq48 c = leading-zero (omega arith) c.read_digits-digits.ensures (omega arith) c.if-input-start-eq48.true
-
-pub returns-then-not-fits : goal.returns-then-not-fits
-returns-then-not-fits c = too_large (omega arith) c.read_digits-digits.ensures (not_fitting c.fits.ensures (not_from_false _ c.if-not-fits.true))
-
-pub overflow_cast-result : goal.overflow_cast-result
-overflow_cast-result c = omega (arith, fitting c.fits.ensures (not_from_true _ c.if-not-fits.false))
+returns-then-input-start-eq48 c = leading_zero c.requires.1 c.read_digits-value.ensures c.if-next-start-2.true c.if-input-start-eq48.true
 
 pub returns : goal.returns
-returns c = number-stands (omega arith) c.read_digits-digits.ensures c.if-next-start.false
-    (elim c.if-next-start-2.branch [ then-next-start-2+else-input-start-eq48 w ↦ (λ h. w.if-input-start-eq48.false) | else-next-start-2 w ↦ (λ h. absurd (omega arith)) ])
-    (fitting c.fits.ensures (not_from_true _ c.if-not-fits.false))
+returns c =
+    number_stands c.requires.1 c.read_digits-value.ensures c.if-next-start.false
+    (elim c.else-next-start-2.branch [
+      | else-next-start-2-via-then-next-start-2+else-input-start-eq48 w ↦ (λ h. w.if-input-start-eq48.false)
+      | else-next-start-2-via-else-next-start-2 w ↦ (λ h. absurd (omega arith))
+    ])
+    c.if-value-gt-MOST.false

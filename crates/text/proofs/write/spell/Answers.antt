@@ -1,15 +1,9 @@
--- `text::write::spell` puts digit before digit: each turn is `one_spelled`.
-use Rattle.text.proofs.WritingLaws.{spelling_start, one_spelled, all_spelled, ten_spelled}
+-- Each turn is `one_spelled`, the last `all_spelled`.
+use Rattle.text.proofs.WritingLaws.{one_spelled, all_spelled}
 use Rattle.text.proofs.write.spell.Goals as goal
 
-pub loop-place-init : goal.loop-place-init
-loop-place-init c = search (spelling_start)
-
 pub returns-then-rest-lt10 : goal.returns-then-rest-lt10
-returns-then-rest-lt10 c = search (all_spelled)
+returns-then-rest-lt10 c = all_spelled c.loop-place.invariant c.loop-place-test.true c.digit.ensures c.if-rest-lt10.true
 
 pub loop-place-preserved : goal.loop-place-preserved
-loop-place-preserved c = search (one_spelled)
-
-pub returns : goal.returns
-returns c = search (ten_spelled)
+loop-place-preserved c = one_spelled c.loop-place.invariant c.loop-place-test.true c.digit.ensures c.if-rest-lt10.false
