@@ -1,16 +1,18 @@
 -- Join has one outcome: two that both meet its statement for the same inputs are equal.
 -- In this order: what is handed back as numbers, and what the lent slices hold; the answer itself.
-use mathlib.Core.Path.{◌≡◌, refl, sym, ap, ◌∙◌}
+use mathlib.Core.Path.{◌≡◌, sym, ap, ◌∙◌}
 use mathlib.Core.List.{List}
 use Prim.Native.Nat.{ℕ}
 use native.Mathlib.Omega.{arith}
 use lib.ListN.{length}
+use Rattle.std.specs.Prelude.{Result, Ok, Err}
 use Rattle.paths.proofs.Figures.{number_lawful}
 use Rattle.paths.proofs.Unique.{join_unique}
 use Rattle.refusals.specs.Lent.{filled, ListRefused}
 use Rattle.lists.specs.Entries.{times as times_of, energies as energies_of}
-use Rattle.joins.specs.declared.JoinAnswer.{JoinAnswer}
-use Rattle.joins.specs.declared.JoinAnswer.TheVariants as case
+use Rattle.joins.specs.declared.JoinRefusal.{JoinRefusal}
+use Rattle.joins.specs.declared.JoinRefusal.TheVariants as case
+use Rattle.joins.proofs.RefusalLaws.{same_join_refusal}
 use Rattle.joins.specs.Answers.{join_number_of, join_count_of, Join, refused, no_room, joined}
 
 -- The same outcome: what is handed back, and what the lent slices hold
@@ -63,28 +65,20 @@ module _
 -- ---- The answer itself
 
 -- answers with the same number and count are the same case with the same value
-same-join : (r r' : JoinAnswer) → join_number_of r ≡ join_number_of r' → join_count_of r ≡ join_count_of r' → r ≡ r'
-same-join (case.Joined count) (case.Joined count') n c = ap case.Joined c
-same-join (case.Joined count) case.LengthsDiffer n c = absurd (omega (arith, n))
-same-join (case.Joined count) case.IllFormed n c = absurd (omega (arith, n))
-same-join (case.Joined count) case.NoRoom n c = absurd (omega (arith, n))
-same-join case.LengthsDiffer (case.Joined count') n c = absurd (omega (arith, n))
-same-join case.LengthsDiffer case.LengthsDiffer n c = refl
-same-join case.LengthsDiffer case.IllFormed n c = absurd (omega (arith, n))
-same-join case.LengthsDiffer case.NoRoom n c = absurd (omega (arith, n))
-same-join case.IllFormed (case.Joined count') n c = absurd (omega (arith, n))
-same-join case.IllFormed case.LengthsDiffer n c = absurd (omega (arith, n))
-same-join case.IllFormed case.IllFormed n c = refl
-same-join case.IllFormed case.NoRoom n c = absurd (omega (arith, n))
-same-join case.NoRoom (case.Joined count') n c = absurd (omega (arith, n))
-same-join case.NoRoom case.LengthsDiffer n c = absurd (omega (arith, n))
-same-join case.NoRoom case.IllFormed n c = absurd (omega (arith, n))
-same-join case.NoRoom case.NoRoom n c = refl
+same-join : (r r' : Result ℕ JoinRefusal) → join_number_of r ≡ join_number_of r' → join_count_of r ≡ join_count_of r' → r ≡ r'
+same-join (Ok count) (Ok count') n c = ap Ok c
+same-join (Ok count) (Err case.LengthsDiffer) n c = absurd (omega (arith, n))
+same-join (Ok count) (Err case.IllFormed) n c = absurd (omega (arith, n))
+same-join (Ok count) (Err case.NoRoom) n c = absurd (omega (arith, n))
+same-join (Err case.LengthsDiffer) (Ok count') n c = absurd (omega (arith, n))
+same-join (Err case.IllFormed) (Ok count') n c = absurd (omega (arith, n))
+same-join (Err case.NoRoom) (Ok count') n c = absurd (omega (arith, n))
+same-join (Err refusal) (Err refusal') n c = ap Err (same_join_refusal refusal refusal' n)
 
 -- Join has one answer, and leaves one content in the lent slices: two that meet its statement for the same inputs are equal
 pub join_answer_unique :
     {times energies more_times more_energies out_times out_energies times_after energies_after times_after' energies_after' : List ℕ}
-    {r r' : JoinAnswer} →
+    {r r' : Result ℕ JoinRefusal} →
     Join times energies more_times more_energies out_times out_energies (join_number_of r) (join_count_of r) times_after energies_after →
     Join times energies more_times more_energies out_times out_energies (join_number_of r') (join_count_of r') times_after' energies_after' →
     (r ≡ r') × (times_after ≡ times_after') × (energies_after ≡ energies_after')

@@ -3,4 +3,5 @@ pub mod FormLaws
 pub mod Rules
 pub mod SumAnswers
 pub mod LimitedUnique
+pub mod RefusalLaws
 pub mod JoinUnique

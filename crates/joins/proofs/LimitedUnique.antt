@@ -1,14 +1,17 @@
 -- Limited join has one answer: two that both meet its statement for the same inputs are equal.
 -- In this order: number, time and energy; the answer itself.
-use mathlib.Core.Path.{◌≡◌, refl, sym, ap, ◌∙◌}
+use mathlib.Core.Path.{◌≡◌, sym, ap, ◌∙◌}
 use mathlib.Core.List.{List}
 use Prim.Native.Nat.{ℕ}
 use native.Mathlib.Omega.{arith}
 use Rattle.paths.specs.Weights.{energy, time, spent}
+use Rattle.std.specs.Prelude.{Result, Ok, Err}
+use Rattle.paths.specs.declared.pair.Pair.{Pair}
 use Rattle.paths.proofs.Figures.{number_lawful}
 use Rattle.paths.proofs.Unique.{best_sum_unique}
-use Rattle.joins.specs.declared.SumAnswer.{SumAnswer}
-use Rattle.joins.specs.declared.SumAnswer.TheVariants as case
+use Rattle.joins.specs.declared.SumRefusal.{SumRefusal}
+use Rattle.joins.specs.declared.SumRefusal.TheVariants as case
+use Rattle.joins.proofs.RefusalLaws.{same_sum_refusal}
 use Rattle.joins.specs.Answers.{sum_number_of, sum_time_of, sum_energy_of, SumRefused, LimitedJoin, refused, over_limit, found}
 
 -- The same answer
@@ -50,28 +53,20 @@ limited_join_unique (found p b n) (found p' b' n') =
 
 -- answers with the same number, time and energy are the same case with the same values
 same_sum :
-    (r r' : SumAnswer) → SameAnswer (sum_number_of r) (sum_time_of r) (sum_energy_of r) (sum_number_of r') (sum_time_of r') (sum_energy_of r') → r ≡ r'
-same_sum (case.Found t e) (case.Found t' e') z =
-    λ i. case.Found (record { 0 = z.same-time i }) (record { 0 = z.same-energy i })
-same_sum (case.Found t e) case.LengthsDiffer z = absurd (omega (arith, z.same_number))
-same_sum (case.Found t e) case.IllFormed z = absurd (omega (arith, z.same_number))
-same_sum (case.Found t e) case.OverLimit z = absurd (omega (arith, z.same_number))
-same_sum case.LengthsDiffer (case.Found t' e') z = absurd (omega (arith, z.same_number))
-same_sum case.LengthsDiffer case.LengthsDiffer z = refl
-same_sum case.LengthsDiffer case.IllFormed z = absurd (omega (arith, z.same_number))
-same_sum case.LengthsDiffer case.OverLimit z = absurd (omega (arith, z.same_number))
-same_sum case.IllFormed (case.Found t' e') z = absurd (omega (arith, z.same_number))
-same_sum case.IllFormed case.LengthsDiffer z = absurd (omega (arith, z.same_number))
-same_sum case.IllFormed case.IllFormed z = refl
-same_sum case.IllFormed case.OverLimit z = absurd (omega (arith, z.same_number))
-same_sum case.OverLimit (case.Found t' e') z = absurd (omega (arith, z.same_number))
-same_sum case.OverLimit case.LengthsDiffer z = absurd (omega (arith, z.same_number))
-same_sum case.OverLimit case.IllFormed z = absurd (omega (arith, z.same_number))
-same_sum case.OverLimit case.OverLimit z = refl
+    (r r' : Result Pair SumRefusal) → SameAnswer (sum_number_of r) (sum_time_of r) (sum_energy_of r) (sum_number_of r') (sum_time_of r') (sum_energy_of r') → r ≡ r'
+same_sum (Ok sum) (Ok sum') z =
+    λ i. Ok (record { time = record { 0 = z.same-time i }; energy = record { 0 = z.same-energy i } })
+same_sum (Ok sum) (Err case.LengthsDiffer) z = absurd (omega (arith, z.same_number))
+same_sum (Ok sum) (Err case.IllFormed) z = absurd (omega (arith, z.same_number))
+same_sum (Ok sum) (Err case.OverLimit) z = absurd (omega (arith, z.same_number))
+same_sum (Err case.LengthsDiffer) (Ok sum') z = absurd (omega (arith, z.same_number))
+same_sum (Err case.IllFormed) (Ok sum') z = absurd (omega (arith, z.same_number))
+same_sum (Err case.OverLimit) (Ok sum') z = absurd (omega (arith, z.same_number))
+same_sum (Err refusal) (Err refusal') z = ap Err (same_sum_refusal refusal refusal' z.same_number)
 
 -- Limited join has one answer: two values that meet its statement for the same inputs are equal
 pub sum_answer_unique :
-    {times energies more_times more_energies : List ℕ} {limit : ℕ} {r r' : SumAnswer} →
+    {times energies more_times more_energies : List ℕ} {limit : ℕ} {r r' : Result Pair SumRefusal} →
     LimitedJoin times energies more_times more_energies limit (sum_number_of r) (sum_time_of r) (sum_energy_of r) →
     LimitedJoin times energies more_times more_energies limit (sum_number_of r') (sum_time_of r') (sum_energy_of r') →
     r ≡ r'

@@ -1,25 +1,29 @@
 -- What Limited join answers is what it is to answer: one law for each of its answers.
-use mathlib.Core.Path.{◌≡◌, refl, sym, subst, ◌∙◌}
+use mathlib.Core.Path.{◌≡◌, refl}
 use mathlib.Core.List.{List}
 use Prim.Native.Nat.{ℕ}
 use native.Mathlib.Omega.{arith}
+use Rattle.std.specs.Prelude.{None}
 use Rattle.paths.specs.Weights.{energy, pair}
 use Rattle.paths.specs.Answer.{BestSum}
 use Rattle.lists.specs.Entries.{entries}
 use Rattle.joins.specs.Form.{join_number}
 use Rattle.lists.specs.working.Lists.{above_all}
 use Rattle.lists.specs.working.Sums.{sum_at, BestPlaces, BestFound}
-use Rattle.lists.specs.declared.Places.{Places}
-use Rattle.lists.specs.declared.Places.TheVariants.{Nowhere}
+use Rattle.joins.specs.Refusals.{form_refusal_number, sum_refusal_number, sum_refusal_of}
+use Rattle.joins.specs.declared.form.FormRefusal.{FormRefusal}
+use Rattle.joins.specs.declared.form.FormRefusal.TheVariants as form_case
 use Rattle.joins.specs.Answers.{LimitedJoin, refused, over_limit, found}
 use Rattle.lists.proofs.Entries.{is_list_more, best_places_best_sum, nowhere_no_sum}
 use Rattle.joins.proofs.FormLaws.{BothLists, join_number-passed}
 
 module _ (times energies more_times more_energies : List ℕ) where
-  -- a number that is not 0 refuses
+  -- lists that are not formed are refused by the same number
   pub answer_refused :
-      {limit number : ℕ} (n : ℕ) → number ≡ join_number times energies more_times more_energies → number ≡ n → (n ≡ 0 → ⊥) → LimitedJoin times energies more_times more_energies limit n 0 0
-  answer_refused n e f h = refused (λ z. h (sym f ∙ (e ∙ z))) (record { number_is = sym f ∙ e; zero_time = refl; zero_energy = refl })
+      {limit : ℕ} (form : FormRefusal) → form_refusal_number form ≡ join_number times energies more_times more_energies →
+      LimitedJoin times energies more_times more_energies limit (sum_refusal_number (sum_refusal_of form)) 0 0
+  answer_refused form_case.LengthsDiffer e = refused (λ z. omega arith) (record { number_is = e; zero_time = refl; zero_energy = refl })
+  answer_refused form_case.IllFormed e = refused (λ z. omega arith) (record { number_is = e; zero_time = refl; zero_energy = refl })
 
   module _ (passed : join_number times energies more_times more_energies ≡ 0) where
     -- the two lists, with room for sums of 32 bits
@@ -34,8 +38,8 @@ module _ (times energies more_times more_energies : List ℕ) where
         }
 
     -- no sum within the limit
-    pub answer_over : {limit : ℕ} {r : Places} → r ≡ Nowhere → BestFound times energies more_times more_energies limit r → LimitedJoin times energies more_times more_energies limit 23 0 0
-    answer_over {limit} e h = over_limit passed (nowhere_no_sum times energies more_times more_energies (subst (BestFound times energies more_times more_energies limit) e h)) (record { number_is = refl; zero_time = refl; zero_energy = refl })
+    pub answer_over : {limit : ℕ} → BestFound times energies more_times more_energies limit None → LimitedJoin times energies more_times more_energies limit 23 0 0
+    answer_over h = over_limit passed (nowhere_no_sum times energies more_times more_energies h) (record { number_is = refl; zero_time = refl; zero_energy = refl })
 
     -- the best sum
     pub answer_found :

@@ -1,47 +1,37 @@
 -- What the two joins answer, for all inputs (SCOPE 5.5, 5.6).
-use Rattle.std.specs.Prelude.{◌≡◌, List, ℕ, ◌≤◌, ◌<◌, min, length}
+use Rattle.std.specs.Prelude.{◌≡◌, List, ℕ, Result, Ok, Err, ◌≤◌, ◌<◌, min, length}
 use Rattle.paths.specs.Weights.{energy, pair}
 use Rattle.paths.specs.TradeOff.{IsJoin}
 use Rattle.paths.specs.Answer.{BestSum, NoSum}
+use Rattle.paths.specs.declared.pair.Pair.{Pair}
 use Rattle.refusals.specs.Lent.{filled, ListRefused}
 use Rattle.lists.specs.Entries.{Weight, entries, times as times_of, energies as energies_of}
 use Rattle.joins.specs.Form.{join_number}
-use Rattle.joins.specs.declared.JoinAnswer.{JoinAnswer}
-use Rattle.joins.specs.declared.JoinAnswer.TheVariants as join_case
-use Rattle.joins.specs.declared.SumAnswer.{SumAnswer}
-use Rattle.joins.specs.declared.SumAnswer.TheVariants as sum_case
+use Rattle.joins.specs.Refusals.{join_refusal_number, sum_refusal_number}
+use Rattle.joins.specs.declared.JoinRefusal.{JoinRefusal}
+use Rattle.joins.specs.declared.SumRefusal.{SumRefusal}
 
 -- The number and the count of a join's answer, zeros beside a refusal (SCOPE 4.1)
-abbrev pub join_number_of : JoinAnswer → ℕ
-join_number_of (join_case.Joined count) = 0
-join_number_of join_case.LengthsDiffer = 41
-join_number_of join_case.IllFormed = 42
-join_number_of join_case.NoRoom = 24
+abbrev pub join_number_of : Result ℕ JoinRefusal → ℕ
+join_number_of (Ok count) = 0
+join_number_of (Err refusal) = join_refusal_number refusal
 
-abbrev pub join_count_of : JoinAnswer → ℕ
-join_count_of (join_case.Joined count) = count
-join_count_of join_case.LengthsDiffer = 0
-join_count_of join_case.IllFormed = 0
-join_count_of join_case.NoRoom = 0
+abbrev pub join_count_of : Result ℕ JoinRefusal → ℕ
+join_count_of (Ok count) = count
+join_count_of (Err refusal) = 0
 
 -- The number, the time and the energy of a limited join's answer, zeros beside a refusal (SCOPE 4.1)
-abbrev pub sum_number_of : SumAnswer → ℕ
-sum_number_of (sum_case.Found time energy) = 0
-sum_number_of sum_case.LengthsDiffer = 41
-sum_number_of sum_case.IllFormed = 42
-sum_number_of sum_case.OverLimit = 23
+abbrev pub sum_number_of : Result Pair SumRefusal → ℕ
+sum_number_of (Ok sum) = 0
+sum_number_of (Err refusal) = sum_refusal_number refusal
 
-abbrev pub sum_time_of : SumAnswer → ℕ
-sum_time_of (sum_case.Found time energy) = time.0
-sum_time_of sum_case.LengthsDiffer = 0
-sum_time_of sum_case.IllFormed = 0
-sum_time_of sum_case.OverLimit = 0
+abbrev pub sum_time_of : Result Pair SumRefusal → ℕ
+sum_time_of (Ok sum) = sum.time.0
+sum_time_of (Err refusal) = 0
 
-abbrev pub sum_energy_of : SumAnswer → ℕ
-sum_energy_of (sum_case.Found time energy) = energy.0
-sum_energy_of sum_case.LengthsDiffer = 0
-sum_energy_of sum_case.IllFormed = 0
-sum_energy_of sum_case.OverLimit = 0
+abbrev pub sum_energy_of : Result Pair SumRefusal → ℕ
+sum_energy_of (Ok sum) = sum.energy.0
+sum_energy_of (Err refusal) = 0
 
 -- A call that gives a sum, refused by a number: zeros beside it (SCOPE 4.1)
 pub record SumRefused (number sum_time sum_energy by : ℕ) : Type 0 where

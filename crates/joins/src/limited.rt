@@ -1,11 +1,11 @@
 // Limited join: the form of both lists, then the best sum of the two within the limit.
 ghost use Rattle.joins.specs.Answers.{LimitedJoin, sum_number_of, sum_time_of, sum_energy_of};
 
-use crate::SumAnswer;
-use crate::form::join_number;
-use lists::Places;
+use crate::SumRefusal;
+use crate::form::check_form;
 use lists::sums::{best_sum, sum_at};
 use paths::energy::Energy;
+use paths::pair::Pair;
 
 // Limited join, for all inputs.
 pub fn limited_join(
@@ -14,7 +14,7 @@ pub fn limited_join(
     more_times: &[u32],
     more_energies: &[u32],
     limit: u32,
-) -> SumAnswer
+) -> Result<Pair, SumRefusal>
     ensures { LimitedJoin
         times.now
         energies.now
@@ -25,19 +25,10 @@ pub fn limited_join(
         (sum_time_of result)
         (sum_energy_of result) }
 {
-    let number = join_number(times, energies, more_times, more_energies);
-    if number == 41 {
-        return SumAnswer::LengthsDiffer;
-    }
-    if number == 42 {
-        return SumAnswer::IllFormed;
-    }
-    let places = best_sum(times, energies, more_times, more_energies, Energy(limit));
-    let Places::At(i, j) = places else {
-        return SumAnswer::OverLimit;
+    check_form(times, energies, more_times, more_energies)?;
+    let Some((i, j)) = best_sum(times, energies, more_times, more_energies, Energy(limit)) else {
+        return Err(SumRefusal::OverLimit);
     };
     let sum = sum_at(times, energies, more_times, more_energies, i, j);
-    let time = sum.time;
-    let energy = sum.energy;
-    SumAnswer::Found(time, energy)
+    Ok(sum.pair)
 }

@@ -1,6 +1,6 @@
 -- Laws of lists in two slices: a member of the list of entries is an entry at a place, a later entry has more energy and less time, and
 -- best places are a best sum. In this order: places; order; places of sums.
-use mathlib.Core.Path.{◌≡◌, refl, sym, ap₂, subst, ◌∙◌}
+use mathlib.Core.Path.{◌≡◌, refl, sym, ap₂, ◌∙◌}
 use mathlib.Core.Logic.{◌⊎◌, inl, inr}
 use mathlib.Core.List.Memᴰ
 use mathlib.Core.List.{List, [], ◌∷◌, Memᴰ}
@@ -13,9 +13,7 @@ use Rattle.paths.specs.TradeOff.{IsSum}
 use Rattle.paths.specs.Answer.{BestSum, NoSum}
 use Rattle.lists.specs.Entries.{Weight, entries}
 use Rattle.lists.specs.working.Lists.{entry_at, IsList}
-use Rattle.lists.specs.working.Sums.{sum_at, BestPlaces, BestFound}
-use Rattle.lists.specs.declared.Places.{Places}
-use Rattle.lists.specs.declared.Places.TheVariants.{At}
+use Rattle.lists.specs.working.Sums.{sum_at, BestPlaces}
 
 -- ---- Places
 
@@ -126,10 +124,6 @@ module _ (times energies more_times more_energies : List ℕ) where
         in_second = index_member more_times more_energies j k (omega arith);
         adds = refl;
       }
-
-  -- the search found places
-  pub places_at : {limit i j : ℕ} {r : Places} → r ≡ At i j → BestFound times energies more_times more_energies limit r → BestPlaces times energies more_times more_energies limit i j
-  places_at {limit} e h = subst (BestFound times energies more_times more_energies limit) e h
 
   -- the best places give the best sum
   pub best_places_best_sum :

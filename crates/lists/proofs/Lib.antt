@@ -1,6 +1,4 @@
 -- Laws of trade-off lists in two slices. Each file's first lines say what it shows.
 pub mod Entries
-pub mod Tests
-pub mod Leading
 pub mod Walk
 pub mod JoinBackwards

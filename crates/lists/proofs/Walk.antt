@@ -2,7 +2,7 @@
 -- In this order: a sum's numbers; two sums compared; the entries that fit beside an energy; the last that fits; the walk.
 use mathlib.Core.Path.{◌≡◌, refl, sym, ap, ◌∙◌, subst}
 use mathlib.Core.Logic.{◌⊎◌, inl, inr}
-use mathlib.Core.Bool.{Bool, true, false, not, true≢false}
+use mathlib.Core.Bool.{Bool, true, false}
 use mathlib.Core.List.{List}
 use Prim.Native.Nat.{ℕ, zero, suc, ◌+◌, ◌-◌, ◌≤◌, ◌<◌, ◌^◌}
 use native.Mathlib.Decide.{dec_le, ℕ_discrete}
@@ -18,16 +18,12 @@ use Rattle.lists.specs.Entries.{Weight}
 use Rattle.lists.specs.working.Lists.{above_all, IsList}
 use Rattle.lists.specs.working.Sums.{sum_at, BestPlaces}
 use Rattle.lists.specs.declared.sums.Sum.{Sum}
-use Rattle.lists.proofs.Tests.{test-fails, test-holds}
 use Rattle.lists.proofs.Entries.{energy_rises_far, time_falls_far, within_eq, not_later_eq}
 
 -- ---- A sum's numbers
 
 module _ {times energies more_times more_energies : List ℕ} (first : IsList above_all times energies) (second : IsList above_all more_times more_energies) {i j : ℕ} where
   -- two numbers of 31 bits have a sum of 32
-  pub time-adds : i < length times → j < length more_times → get_or times i 0 + get_or more_times j 0 < 2 ^ 32
-  time-adds h k = omega (arith, first.small_time i h, second.small_time j k)
-
   pub energy-adds : i < length energies → j < length more_energies → get_or energies i 0 + get_or more_energies j 0 < 2 ^ 32
   energy-adds h k = omega (arith, first.small_energy i h, second.small_energy j k)
 
@@ -51,7 +47,7 @@ pair_is p q = λ i. record { first = q i; second = p i }
 
 -- The weight of a sum
 abbrev pub weight_of : Sum → Weight
-weight_of s = pair s.time.0 s.energy.0
+weight_of s = pair s.pair.time.0 s.pair.energy.0
 
 -- Whether a weight comes before another as an answer
 abbrev pub Compared : Weight → Weight → Bool → Type 0
@@ -88,15 +84,6 @@ module _ {t e t' e' : ℕ} {quicker : Bool} (q : quicker ≡ ltb t t') where
         decide true h = inl (by_figures one_time (ltb-true _ _ (sym h)), refl)
         decide false h = inr (no_later (ltb-false _ _ (sym h)) (dec_le e e'), refl)
 
--- what is known where it does, and where it does not
-compared_before : {p q : Weight} {r : Bool} → Compared p q r → r ≡ true → Sooner energy p q
-compared_before (inl (before, t)) h = before
-compared_before (inr (later, f)) h = absurd (true≢false (sym h ∙ f))
-
-compared_later : {p q : Weight} {r : Bool} → Compared p q r → r ≡ false → NotLater energy q p
-compared_later (inl (before, t)) h = absurd (true≢false (sym t ∙ h))
-compared_later (inr (later, f)) h = later
-
 -- what is sooner is not also no sooner
 not_both : {p q : Weight} → Sooner energy q p → NotLater energy p q → ⊥
 not_both h (sooner k) = sooner_irrefl number_lawful (sooner_trans number_lawful h k) refl
@@ -107,36 +94,6 @@ sooner_eq : {p q r s : Weight} → p ≡ r → q ≡ s → Sooner energy p q →
 sooner_eq {q = q} {r = r} e f h = subst (λ z. Sooner energy r z) f (subst (λ z. Sooner energy z q) e h)
 
 -- ---- The entries that fit beside an energy
-
--- No entry from j up to from fits beside an energy within the limit
-pub record NoneFrom (more_energies : List ℕ) (energy limit from j : ℕ) : Type 0 where
-  pub in_list : j ≤ from
-  pub beyond : (k : ℕ) → j ≤ k → k < from → limit < energy + get_or more_energies k 0
-
--- the last entry is over the limit too
-pub none_from_more :
-    {more_energies : List ℕ} {energy limit from j sum : ℕ} {over : Bool} →
-    NoneFrom more_energies energy limit from j →
-    0 < j →
-    sum ≡ energy + get_or more_energies (j - 1) 0 →
-    over ≡ ltb limit sum →
-    not over ≡ false →
-    NoneFrom more_energies energy limit from (j - 1)
-none_from_more {more_energies} {energy} {limit} {from} {j} {sum} none-fits h s e f = record { in_list = omega (arith, none-fits.in_list); beyond = beyond }
-  where
-    is_over : limit < energy + get_or more_energies (j - 1) 0
-    is_over = let z : limit < sum = ltb-true _ _ (test-holds e f) in omega arith
-
-    beyond : (k : ℕ) → j - 1 ≤ k → k < from → limit < energy + get_or more_energies k 0
-    beyond k l m = pick (ℕ_discrete k (j - 1))
-      where
-        pick : Dec (k ≡ j - 1) → limit < energy + get_or more_energies k 0
-        pick (yes d) = rw d is_over
-        pick (no d) = none-fits.beyond k (omega arith) m
-
--- it is not: it fits
-pub fits-here : (energy x : ℕ) {limit sum : ℕ} {over : Bool} → sum ≡ energy + x → over ≡ ltb limit sum → not over ≡ true → energy + x ≤ limit
-fits-here energy x {limit} {sum} s e t = let z : sum ≤ limit = ltb-false _ _ (test-fails e t) in omega arith
 
 -- Entry j - 1 is the last that fits beside an energy within the limit; if j is 0, none does
 pub record Fit (more_energies : List ℕ) (energy limit j : ℕ) : Type 0 where
@@ -297,11 +254,6 @@ module _ {most : ℕ} {times energies more_times more_energies : List ℕ} (firs
 
   -- ---- The ways through the loop
 
-  -- no entry at all
-  pub walk-empty :
-      {limit : ℕ} → length times ≡ 0 → (a b : ℕ) → a < length times → b < length more_times → Within energy limit (sum a b) → ⊥
-  walk-empty h a b l k w = omega arith
-
   -- nothing fits beside the first entry, so nothing does beside a later one
   pub walk-nothing :
       {limit j : ℕ} → Fit more_energies (get_or energies 0 0) limit j → j ≡ 0 → (a b : ℕ) → a < length times → b < length more_times → Within energy limit (sum a b) → ⊥
@@ -332,21 +284,18 @@ module _ {most : ℕ} {times energies more_times more_energies : List ℕ} (firs
 
     -- entry n has a sum, which is taken if it comes before the best
     pub walk_more :
-        {r : ℕ} {candidate next : Sum} {before : Bool} → n < length times → Fit more_energies (get_or energies n 0) limit r → 0 < r → Weighed times energies more_times more_energies candidate n (r - 1) →
-        Compared (weight_of candidate) (weight_of best) before →
-        ((before ≡ true) × (next ≡ candidate)) ⊎ ((before ≡ false) × (next ≡ best)) → Walked times energies more_times more_energies limit (n + 1) r next
-    walk_more h fit some is compared (inl (t, e)) =
+        {r : ℕ} {candidate next : Sum} → n < length times → Fit more_energies (get_or energies n 0) limit r → 0 < r → Weighed times energies more_times more_energies candidate n (r - 1) →
+        (Sooner energy (weight_of candidate) (weight_of best) × (next ≡ candidate)) ⊎ (NotLater energy (weight_of best) (weight_of candidate) × (next ≡ best)) →
+        Walked times energies more_times more_energies limit (n + 1) r next
+    walk_more h fit some is (inl (before, e)) =
         record {
           in_list = omega arith;
           fits_in_list = fit.in_list;
           beyond = beyond-next n fit;
-          best_is =
-              rw (e, is.first_is, is.second_is)
-              (best_taken walked.best_is fit some (sooner_eq is.weighs walked.weighs (compared_before compared t)));
+          best_is = rw (e, is.first_is, is.second_is) (best_taken walked.best_is fit some (sooner_eq is.weighs walked.weighs before));
           weighs = rw (e, is.first_is, is.second_is) is.weighs;
         }
-    walk_more h fit some is compared (inr (f, e)) =
-        let later = compared_later compared f in
+    walk_more h fit some is (inr (later, e)) =
         record {
           in_list = omega arith;
           fits_in_list = fit.in_list;

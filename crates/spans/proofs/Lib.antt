@@ -2,3 +2,5 @@
 pub mod NotingLaws
 pub mod TableLaws
 pub mod WaitingLaws
+pub mod BelowLaws
+pub mod ListSteps

@@ -1,15 +1,15 @@
--- What is noted of a set of pairs. In this order: one energy; sets in parts; all seconds.
+-- What is noted of a set of pairs. In this order: one energy; sets in parts.
 use mathlib.Core.Path.{◌≡◌, refl, ap, ◌∙◌}
 use mathlib.Core.Logic.{◌⊎◌, inl, inr, ⊎_elim}
 use mathlib.Core.List.{List}
 use Prim.Native.Nat.{ℕ, ◌+◌, ◌≤◌, ◌<◌}
 use native.Mathlib.Decide.{ℕ_discrete}
 use native.Mathlib.Omega.{arith}
-use lib.ListN.{length, get_or, set, length-set}
+use lib.ListN.{length, get_or, length-set}
 use lib.Seq.{get_or-set_same, get_or-set_other}
 use Rattle.paths.specs.Weights.{pair}
 use Rattle.lists.specs.Entries.{Weight}
-use Rattle.spans.specs.working.Noting.{span_seconds, no_energy, LoweredAt, lowered, kept, Lowered, Cleared}
+use Rattle.spans.specs.working.Noting.{span_seconds, LoweredAt, lowered, kept, Lowered}
 
 -- ---- One energy
 
@@ -92,24 +92,3 @@ lowered_then {R} {P} {first = first} {before} {middle} {after} parts one two =
     earlier : (k : ℕ) → get_or after k 0 ≡ get_or middle k 0 → (get_or after k 0 ≡ get_or before k 0) ⊎ R (pair (first + k) (get_or after k 0))
     earlier k e =
         ⊎_elim (λ f. inl (e ∙ f)) (λ z. inr (rw e (parts.first_part (pair (first + k) (get_or middle k 0)) z))) (one.origin k)
-
--- ---- All seconds
-
--- one second more is cleared
-pub cleared_more : {second : ℕ} {leasts : List ℕ} → second < span_seconds → Cleared second leasts → Cleared (second + 1) (set leasts second no_energy)
-cleared_more {second} {leasts} inside now =
-    record { long = simp length-set now.long; clear = λ k h. pick k h (ℕ_discrete k second) }
-  where
-    pick : (k : ℕ) → k < second + 1 → Dec (k ≡ second) → get_or (set leasts second no_energy) k 0 ≡ no_energy
-    pick k h (yes e) = rw e (get_or-set_same leasts second no_energy 0 (omega (arith, now.long)))
-    pick k h (no apart) = get_or-set_other leasts second k no_energy 0 apart ∙ now.clear k (omega arith)
-
--- one second more has no energy below the bound
-pub sought-more :
-    (leasts : List ℕ) {from bound second : ℕ} → ((k : ℕ) → from ≤ k → k < second → bound ≤ get_or leasts k 0) → bound ≤ get_or leasts second 0 →
-    (k : ℕ) → from ≤ k → k < second + 1 → bound ≤ get_or leasts k 0
-sought-more leasts {from} {bound} {second} before here k h g = pick (ℕ_discrete k second)
-  where
-    pick : Dec (k ≡ second) → bound ≤ get_or leasts k 0
-    pick (yes e) = rw e here
-    pick (no apart) = before k h (omega arith)

@@ -1,17 +1,16 @@
--- What a span answers. In this order: a span that begins; the best of a set; the best that is noted.
-use mathlib.Core.Path.{◌≡◌, ap, ◌∙◌, subst}
-use mathlib.Core.Logic.{inl, inr, ⊎_elim}
+-- What a span answers. In this order: a span that begins; the best that is noted.
+use mathlib.Core.Path.{◌≡◌, subst}
+use mathlib.Core.Logic.{⊎_elim}
 use mathlib.Core.List.{List}
 use Prim.Native.Nat.{ℕ, ◌+◌, ◌-◌, ◌≤◌, ◌<◌}
 use native.Mathlib.Decide.{ℕ_discrete, dec_le}
 use native.Mathlib.Omega.{arith}
 use lib.ListN.{length, get_or}
 use Rattle.paths.specs.Weights.{energy, pair, time, spent, NotLater, same, sooner, by_time, by_figures}
-use Rattle.paths.specs.declared.seconds.Seconds.{Seconds}
 use Rattle.lists.specs.Entries.{Weight}
 use Rattle.spans.specs.declared.Span.{Span}
-use Rattle.spans.specs.working.Noting.{span_seconds, no_energy, PairWithin, NoneBefore, Lowered, Cleared, Sought}
-use Rattle.spans.specs.working.Waiting.{most_time, Waiting, NoSpan, BestBelow}
+use Rattle.spans.specs.working.Noting.{span_seconds, no_energy, Sought}
+use Rattle.spans.specs.working.Waiting.{Waiting, NoSpan, BestBelow}
 
 -- ---- A span that begins
 
@@ -26,67 +25,6 @@ waiting_start bound none long =
       least = λ k e h g m w. absurd (omega (arith, none.none_noted));
       none_before = λ p h w. omega (arith, none.from_none, none.none_passed);
     }
-
-module _ {Has : Weight → Type 0} {bound : ℕ} (some : 0 < bound) {first : Seconds} (none : NoneBefore (PairWithin Has (bound - 1)) first.0)
-    (small : first.0 ≤ most_time) where
-  from_first : (p : Weight) → Has p → spent energy p < bound → first.0 + 0 ≤ time energy p
-  from_first p h w = omega (arith, none.later p (record { has = h; within = omega arith }))
-
-  -- no sum is noted
-  pub waiting_none : {leasts : List ℕ} → length leasts ≡ span_seconds → Waiting Has bound (record { first = first; noted = 0; passed = 0 }) leasts
-  waiting_none long =
-      record {
-        long = long;
-        short = omega arith;
-        small = small;
-        real = λ k h g. absurd (omega arith);
-        least = λ k e h g m w. absurd (omega arith);
-        none_before = from_first;
-      }
-
-  -- those of the span are noted
-  pub waiting_noted :
-      {before after : List ℕ} → Cleared span_seconds before → Lowered (PairWithin Has (bound - 1)) first.0 before after →
-      Waiting Has bound (record { first = first; noted = span_seconds; passed = 0 }) after
-  waiting_noted cleared noted =
-      record {
-        long = noted.long;
-        short = omega arith;
-        small = small;
-        real = λ k h g. ⊎_elim (λ e. inl (e ∙ cleared.clear k g)) (λ z. inr z.has) (noted.origin k);
-        least = λ k e h g m w. noted.least k e g (record { has = m; within = omega arith });
-        none_before = from_first;
-      }
-
--- ---- The best of a set
-
--- what comes no later takes no less
-no_earlier : {p q : Weight} → NotLater energy p q → time energy p ≤ time energy q
-no_earlier (sooner (by_time less)) = omega arith
-no_earlier (sooner (by_figures e less)) = omega arith
-no_earlier (same e) = omega (arith, ap (time energy) e)
-
-module _ {Has : Weight → Type 0} {bound : ℕ} {p : Weight} (best : BestBelow Has bound p) where
-  -- no pair takes less than the best
-  pub best-first : 0 < bound → NoneBefore (PairWithin Has (bound - 1)) (time energy p)
-  best-first some = record { later = λ q h. no_earlier (best.least q h.has (omega (arith, h.within))) }
-
-  module _ {span : Span} {leasts : List ℕ} (now : Waiting Has bound span leasts) where
-    -- it is not before the span
-    pub best-behind : span.first.0 ≤ time energy p
-    best-behind = omega (arith, now.none_before p best.among best.below)
-
-    -- the span waits for what is below it
-    pub best-waits : Waiting Has (spent energy p) span leasts
-    best-waits =
-        record {
-          long = now.long;
-          short = now.short;
-          small = now.small;
-          real = now.real;
-          least = λ k e h g m w. now.least k e h g m (omega (arith, best.below));
-          none_before = λ q h w. now.none_before q h (omega (arith, best.below));
-        }
 
 -- ---- The best that is noted
 

@@ -2,6 +2,8 @@
 // of many entries of a trade-off list, and no sum is compared with another. Whose sums they are is the caller's affair.
 #![tactic(auto)]
 
+pub mod sums;
+
 ghost use Rattle.std.specs.Prelude.{◌≡◌, ◌+◌, ◌-◌, ◌≤◌, ◌<◌, ◌^◌, length};
 ghost use Rattle.spans.specs.working.Noting.{span_seconds, LoweredAt, Cleared, Sought};
 ghost use Rattle.spans.specs.working.Waiting.{NoSpan};
@@ -12,7 +14,7 @@ use paths::seconds::Seconds;
 // How many seconds are noted at once.
 pub const SECONDS: usize = 2048;
 
-// More than any energy: no sum takes so long.
+// More than any energy: no sum takes so long. A number and no Option, so that the table stays small and the lesser of two is one test.
 const NO_ENERGY: u32 = 4294967295;
 
 // The seconds that are noted, from the first on, and how many of them are passed.
@@ -51,38 +53,32 @@ pub fn time_behind(first: Seconds, seconds: usize) -> Seconds
 }
 
 // Notes an energy for a second if it is less than what is noted there.
-pub fn lower(leasts: &mut [u32; 2048], second: usize, energy: Energy)
+pub fn lower(leasts: &mut [u32; SECONDS], second: usize, energy: Energy)
     requires { (length leasts.old ≡ span_seconds) × (second < span_seconds) }
     ensures { LoweredAt second energy.0 leasts.old leasts.new }
 {
-    if energy.below(Energy(leasts[second])) {
+    if energy < Energy(leasts[second]) {
         leasts[second] = energy.0;
     }
 }
 
 // Nothing is noted for any second.
-pub fn clear(leasts: &mut [u32; 2048])
+pub fn clear(leasts: &mut [u32; SECONDS])
     requires { length leasts.old ≡ span_seconds }
     ensures { Cleared span_seconds leasts.new }
 {
-    let mut second: usize = 0;
-    while second < SECONDS {
-        leasts[second] = NO_ENERGY;
-        second += 1;
-    }
+    leasts.fill(NO_ENERGY);
 }
 
-// The first second from one on for which an energy below the bound is noted, or the end.
-pub fn first_below(leasts: &[u32; 2048], from: usize, end: usize, bound: Energy) -> usize
+// The first second from one on for which an energy below the bound is noted, or the end, from where callers go on.
+pub fn first_below(leasts: &[u32; SECONDS], from: usize, end: usize, bound: Energy) -> usize
     requires { (length leasts.now ≡ span_seconds) × (end ≤ span_seconds) }
     ensures { Sought leasts.now from end bound.0 result }
 {
-    let mut second = from;
-    while second < end {
-        if Energy(leasts[second]).below(bound) {
+    for second in from..end {
+        if Energy(leasts[second]) < bound {
             return second;
         }
-        second += 1;
     }
-    second
+    from.max(end)
 }

@@ -1,72 +1,30 @@
 -- The list of a set's unbeaten pairs, and which sets have the trade-off list of two junctions.
--- In this order: what an answer tells of the list; a set that stands for all paths; the lists between two junctions.
-use mathlib.Core.Path.{◌≡◌, refl, ap, subst}
+-- In this order: a set that stands for all paths; the lists between two junctions.
+use mathlib.Core.Path.{◌≡◌, refl, subst}
 use mathlib.Core.List.Memᴰ
-use mathlib.Core.List.{List, [], Memᴰ}
+use mathlib.Core.List.{List, []}
 use Prim.Native.Nat.{ℕ}
-use native.Mathlib.Omega.{arith}
-use Rattle.paths.specs.Weights.{weights, energy, pair, Within, Rising}
+use Rattle.paths.specs.Weights.{weights, energy, Rising}
 use Rattle.paths.specs.Network.{weight}
-use Rattle.paths.specs.TradeOff.{Skyline, IsTradeOff, Ordered}
+use Rattle.paths.specs.TradeOff.{Skyline, IsTradeOff}
 use Rattle.paths.specs.Forest.{Common}
 use Rattle.paths.proofs.Figures.{number_lawful}
-use Rattle.paths.proofs.Weights.{weights_lawful, unbeaten-below, ⊑_not_later, not_later_antisym}
+use Rattle.paths.proofs.Weights.{weights_lawful, unbeaten-below}
 use Rattle.paths.proofs.Crossing.{apart-without-common}
 use Rattle.paths.proofs.Existence.{trade_off_exists}
-use Rattle.paths.proofs.OneLimit.{LastWithin, rises-ordered, best_is_last_entry}
 use Rattle.lists.specs.Entries.{Weight}
 use Rattle.network.specs.NetworkFile.{network_of}
 use Rattle.network.proofs.Arcs.{network_finite}
 use Rattle.forest.specs.LabelFile.{parents_of}
 use Rattle.stored.proofs.Passed.{parents-forest, roads_joined}
-use Rattle.query.specs.declared.Answer.{Answer}
 use Rattle.query.specs.declared.Between.{Between}
 use Rattle.query.specs.declared.Between.TheVariants.{Nothing, List as OneList, Lists as TwoLists}
 use Rattle.query.specs.working.Prepared.{Prepared}
-use Rattle.query.specs.working.AnswerValues.{number_of, time_of, energy_of}
-use Rattle.query.specs.working.AnswerFrom.{BestFrom, AnswerFrom, found, over_limit, not_connected}
 use Rattle.query.specs.working.Between.{Leads}
 use Rattle.query.proofs.WholeAnswers.{StandsFor, row_fits, row_stands, list-between-right, list-between-fits}
-use Rattle.tradeoffs.specs.working.Tells.{UnbeatenOf, ListOf, Tells}
-use Rattle.tradeoffs.specs.working.Written.{SomeList}
-
--- ---- What an answer tells of the list
-
-module _ {Has : Weight → Type 0} {l : List Weight} (right : ListOf Has l) where
-  -- no entry beats another
-  pub list-ordered : Ordered l
-  list-ordered = rises-ordered right.rising (λ p q m k b. (right.real k).unbeaten p (right.real m).among b)
-
-  -- the best within a limit is beaten by none, so it is an entry, and the last one there
-  best-last : {C : ℕ} {p : Weight} → BestFrom Has C p → LastWithin l C p
-  best-last best =
-      best_is_last_entry list-ordered
-      (record {
-        member =
-            right.complete
-            (record {
-              among = best.among;
-              unbeaten =
-                  λ q h b.
-                  b.smaller
-                  (not_later_antisym number_lawful (⊑_not_later number_lawful b.no_larger) (best.least q h (omega (arith, b.no_larger.0, best.within))));
-            });
-        within = best.within;
-        least = λ {q} m h. best.least q (right.real m).among h;
-      })
-
-  module _ {C : ℕ} {r : Answer} where
-    -- a pair is the last entry within the limit
-    pub answer_last : AnswerFrom Has C r → number_of r ≡ 0 → LastWithin l C (pair (time_of r) (energy_of r))
-    answer_last (found e best) zero_is = best-last best
-    answer_last (over_limit e out) zero_is = let z : number_of r ≡ 23 = ap number_of e in absurd (omega arith)
-    answer_last (not_connected e none) zero_is = let z : number_of r ≡ 22 = ap number_of e in absurd (omega arith)
-
-    -- a refusal: no entry is within the limit
-    pub answer_none : AnswerFrom Has C r → (number_of r ≡ 0 → ⊥) → (q : Weight) → Memᴰ q l → Within energy C q → ⊥
-    answer_none (found e best) refused q m within = refused e
-    answer_none (over_limit e out) refused q m within = out.none_within q (right.real m).among within
-    answer_none (not_connected e none) refused q m within = none q (right.real m).among
+use Rattle.spans.specs.working.Below.{UnbeatenOf, ListOf}
+use Rattle.tradeoffs.specs.working.Tells.{Tells}
+use Rattle.spans.specs.working.Written.{SomeList}
 
 -- ---- A set that stands for all paths
 

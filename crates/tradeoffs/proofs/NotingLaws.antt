@@ -1,31 +1,29 @@
--- Sums of stored lists noted by their times. In this order: one level; all levels; what a span answers.
+-- Sums of stored lists noted by their times. In this order: one level; all levels; the best answer.
 use mathlib.Core.Path.{◌≡◌, refl, sym, ap, ◌∙◌}
-use mathlib.Core.Logic.{◌⊎◌, inl, inr, ⊎_elim}
+use mathlib.Core.Logic.{inl, inr, ⊎_elim}
 use mathlib.Core.List.{List}
-use Prim.Native.Nat.{ℕ, ◌+◌, ◌-◌, ◌≤◌, ◌<◌}
+use Rattle.std.specs.Prelude.{Result, Ok, Err}
+use Rattle.std.specs.Result.{result_ok}
+use Prim.Native.Nat.{ℕ, ◌+◌, ◌≤◌, ◌<◌}
 use native.Mathlib.Omega.{arith}
-use lib.ListN.{length, get_or}
-use Rattle.paths.specs.Weights.{energy, pair, time, spent}
-use Rattle.paths.specs.declared.seconds.Seconds.{Seconds}
-use Rattle.paths.specs.declared.energy.Energy.{Energy}
+use lib.ListN.{length}
+use Rattle.paths.specs.Weights.{energy, pair, time, Within}
 use Rattle.lists.specs.Entries.{Weight}
-use Rattle.spans.specs.declared.Span.{Span}
-use Rattle.spans.specs.working.Noting.{span_seconds, no_energy, SumOf, PairWithin, NoneBefore, Lowered, Sought}
-use Rattle.spans.specs.working.Waiting.{most_time, Waiting, BestBelow}
+use Rattle.spans.specs.working.Noting.{span_seconds, SumOf, PairWithin, NoneBefore, Lowered}
+use Rattle.spans.specs.working.Below.{BestWithin, BestIs}
 use Rattle.spans.proofs.NotingLaws.{lowered_none, lowered-same, SetParts, lowered_then}
 use Rattle.spans.proofs.TableLaws.{EnergiesRise, FittingSums}
-use Rattle.spans.proofs.WaitingLaws.{best-first, best-behind, best-waits, noted-best, noted-waits}
 use Rattle.forest.specs.LabelFile.{count_at, energy_at, list_end}
 use Rattle.stored.specs.working.Formed.{ListFits}
-use Rattle.query.specs.declared.Answer.{Answer}
-use Rattle.query.specs.declared.Answer.TheVariants as case
+use Rattle.paths.specs.declared.pair.Pair.{Pair}
+use Rattle.query.specs.declared.NoAnswer.{NoAnswer}
+use Rattle.query.specs.declared.NoAnswer.TheVariants as case
 use Rattle.query.specs.working.AnswerValues.{number_of}
-use Rattle.query.specs.working.AnswerFrom.{BestFrom, AnswerFrom, found, over_limit, not_connected}
+use Rattle.query.specs.working.AnswerFrom.{AnswerFrom, found, over_limit, not_connected}
 use Rattle.query.specs.working.Sums.{FittingFrom, sum_of, SumIn, Only, Row, RowFits}
 use Rattle.query.proofs.ListPlaces.{energies_rise, times_fall}
 use Rattle.query.proofs.BestSums.{ListParts, sum_more, sum_cases}
 use Rattle.query.proofs.Rows.{row_parts, Along, along-none, along-more, along_all}
-use Rattle.tradeoffs.specs.working.Noting.{NextBelow}
 
 -- ---- One level
 
@@ -151,95 +149,24 @@ pub row_all :
     levels ≤ done → Lowered (PairWithin (SumIn labels (Row labels near far levels)) C) first before after
 row_all now h = rw (along_all now.along h) at now.so_far
 
--- two figures of entries add up to no more than this
-pub row_small :
-    {labels : List ℕ} {near far levels : ℕ} {p : Weight} → RowFits labels near far levels → SumIn labels (Row labels near far levels) p →
-    (time energy p ≤ 134084610) × (spent energy p ≤ 134084610)
-row_small {labels} row h = (
-  omega (arith, ap (time energy) h.sum.adds, (near_fits.fitting_time h.i h.sum.in_near).1, (far_fits.fitting_time h.j h.sum.in_far).1),
-  omega (arith, ap (spent energy) h.sum.adds, (near_fits.fitting_energy h.i h.sum.in_near).1, (far_fits.fitting_energy h.j h.sum.in_far).1),
-)
-  where
-    near_fits : ListFits labels h.near
-    near_fits = rw h.lists.near_is (row.near_fits h.lists.level h.lists.below)
+-- ---- The best answer
 
-    far_fits : ListFits labels h.far
-    far_fits = rw h.lists.far_is (row.far_fits h.lists.level h.lists.below)
+module _ {Has : Weight → Type 0} {C : ℕ} where
+  -- what is found is the best of the set
+  answer_found : {r : Result Pair NoAnswer} {best : Pair} → r ≡ Ok best → AnswerFrom Has C r → BestWithin Has C (pair best.time.0 best.energy.0)
+  answer_found is (found e first) = let z = rw is at first in record { among = z.among; within = z.within; least = z.least }
+  answer_found is (over_limit e out) = let z : ◌≡◌ {A = ℕ} 0 23 = sym (ap number_of is) ∙ ap number_of e in absurd (omega arith)
+  answer_found is (not_connected e none) = let z : ◌≡◌ {A = ℕ} 0 22 = sym (ap number_of is) ∙ ap number_of e in absurd (omega arith)
 
--- ---- What a span answers
+  -- a refusal: nothing is within the limit
+  answer_none : {r : Result Pair NoAnswer} → (number_of r ≡ 0 → ⊥) → AnswerFrom Has C r → (q : Weight) → Has q → Within energy C q → ⊥
+  answer_none refused (found e first) q h w = refused e
+  answer_none refused (over_limit e out) q h w = out.none_within q h w
+  answer_none refused (not_connected e none) q h w = none q h
 
--- An answer that is a pair
-pub record IsFound (r : Answer) : Type 0 where
-  pub takes : Seconds
-  pub spends : Energy
-  pub is : r ≡ case.Found takes spends
-
--- the number of an answer that is none is not 0
-pub refused : (r : Answer) → (IsFound r → ⊥) → number_of r ≡ 0 → ⊥
-refused (case.Found takes spends) none e = none (record { takes = takes; spends = spends; is = refl })
-refused case.OffMap none e = omega arith
-refused case.NotConnected none e = omega arith
-refused case.OverLimit none e = omega arith
-
--- the key of a pair is no other answer's
-pub found_key : (◌≡◌ {A = ℕ} 0 1) ⊎ ((◌≡◌ {A = ℕ} 0 2) ⊎ (◌≡◌ {A = ℕ} 0 3)) → ⊥
-found_key k = ⊎_elim (λ e. omega arith) (⊎_elim (λ e. omega arith) (λ e. omega arith)) k
-
--- what is found is the best of the set
-found-best :
-    {Has : Weight → Type 0} {C : ℕ} {r : Answer} {takes : Seconds} {spends : Energy} → r ≡ case.Found takes spends → AnswerFrom Has C r → BestFrom Has C (pair takes.0 spends.0)
-found-best is (found e best) = rw is at best
-found-best is (over_limit e out) = let z : ◌≡◌ {A = ℕ} 0 23 = sym (ap number_of is) ∙ ap number_of e in absurd (omega arith)
-found-best is (not_connected e none) = let z : ◌≡◌ {A = ℕ} 0 22 = sym (ap number_of is) ∙ ap number_of e in absurd (omega arith)
-
--- it is the best below the bound
-best-below :
-    {Has : Weight → Type 0} {bound : ℕ} {r : Answer} {takes : Seconds} {spends : Energy} → 0 < bound → r ≡ case.Found takes spends →
-    AnswerFrom Has (bound - 1) r → BestBelow Has bound (pair takes.0 spends.0)
-best-below some is answer =
-    let best = found-best is answer in
-    record { among = best.among; below = omega (arith, best.within); least = λ q h w. best.least q h (omega arith) }
-
--- the best below the bound, and a span that waits for what is below it
-next-best :
-    {Has : Weight → Type 0} {bound : ℕ} {takes : Seconds} {spends : Energy} {after : Span} {lower : List ℕ} → 0 < bound →
-    BestBelow Has bound (pair takes.0 spends.0) → Waiting Has spends.0 after lower →
-    NextBelow Has bound (record { answer = case.Found takes spends; span = after }) lower
-next-best some best waits =
-    record {
-      answers =
-          found refl (record { among = best.among; within = omega (arith, best.below); least = λ q h w. best.least q h (omega arith) });
-      waits = λ e. waits;
-    }
-
-module _ {labels : List ℕ} {near far levels bound : ℕ} (some : 0 < bound) {r : Answer} {takes : Seconds} {spends : Energy} (is : r ≡ case.Found takes spends)
-    (answer : AnswerFrom (SumIn labels (Row labels near far levels)) (bound - 1) r) where
-  -- what the span from its time on asks
-  pub span_asked :
-      {span : Span} {leasts : List ℕ} → RowFits labels near far levels → Waiting (SumIn labels (Row labels near far levels)) bound span leasts →
-      NoneBefore (PairWithin (SumIn labels (Row labels near far levels)) (bound - 1)) takes.0 ×
-      ((takes.0 ≤ most_time) × ((length leasts ≡ span_seconds) × (span.noted ≤ span_seconds) × (span.first.0 ≤ takes.0)))
-  span_asked row now =
-      let best = best-below some is answer in
-      (best-first best some, (omega (arith, (row_small row best.among).0), (now.long, now.short, best-behind best now)))
-
-  -- the span behind it waits for what is below it
-  pub next-found :
-      {after : Span} {lower : List ℕ} → Waiting (SumIn labels (Row labels near far levels)) bound after lower →
-      NextBelow (SumIn labels (Row labels near far levels)) bound (record { answer = case.Found takes spends; span = after }) lower
-  next-found waits = let best = best-below some is answer in next-best some best (best-waits best waits)
-
--- the second found has it
-pub next-noted :
-    {Has : Weight → Type 0} {bound : ℕ} {span : Span} {leasts : List ℕ} {r : ℕ} {takes : Seconds} {spends : Energy} → Waiting Has bound span leasts →
-    bound ≤ no_energy → 0 < bound → Sought leasts span.passed span.noted bound r → r < span.noted → takes.0 ≡ span.first.0 + r →
-    spends.0 ≡ get_or leasts r 0 →
-    NextBelow Has bound (record { answer = case.Found takes spends; span = record { first = span.first; noted = span.noted; passed = r + 1 } }) leasts
-next-noted now most some sought inside is-time is-energy =
-    next-best some (noted-best now most sought inside is-time is-energy) (noted-waits now most sought inside is-time is-energy)
-
--- nothing is below the bound
-pub next-none :
-    {Has : Weight → Type 0} {bound : ℕ} {r : Answer} {span : Span} {leasts : List ℕ} → (number_of r ≡ 0 → ⊥) → AnswerFrom Has (bound - 1) r →
-    NextBelow Has bound (record { answer = r; span = span }) leasts
-next-none none answer = record { answers = answer; waits = λ e. absurd (none e) }
+  -- so the pair of an answer, if it has one, is what is best within the limit
+  pub answer_best : (r : Result Pair NoAnswer) → AnswerFrom Has C r → BestIs Has C (result_ok r)
+  answer_best (Ok best) answer = answer_found refl answer
+  answer_best (Err case.OffMap) answer = answer_none (λ e. omega arith) answer
+  answer_best (Err case.NotConnected) answer = answer_none (λ e. omega arith) answer
+  answer_best (Err case.OverLimit) answer = answer_none (λ e. omega arith) answer

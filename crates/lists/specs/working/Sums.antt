@@ -1,10 +1,8 @@
 -- The best sum of two lists under a limit, by places.
-use Rattle.std.specs.Prelude.{◌≡◌, List, ℕ, ◌≤◌, ◌<◌, length, get_or}
+use Rattle.std.specs.Prelude.{◌≡◌, List, ℕ, Option, Some, None, ◌≤◌, ◌<◌, length, get_or}
 use Rattle.paths.specs.Weights.{weights, energy, Within, NotLater}
 use Rattle.lists.specs.Entries.{Weight}
 use Rattle.lists.specs.working.Lists.{entry_at}
-use Rattle.lists.specs.declared.Places.{Places}
-use Rattle.lists.specs.declared.Places.TheVariants.{At, Nowhere}
 
 -- How many leading entries have energy at most the limit
 pub record Leading (energies : List ℕ) (limit count : ℕ) : Type 0 where
@@ -27,6 +25,6 @@ module _ (times energies more_times more_energies : List ℕ) where
     pub lowest : (a b : ℕ) → a < length times → b < length more_times → sum_at a b ≡ sum_at i j → i ≤ a
 
   -- What the search for the best sum hands back
-  abbrev pub BestFound : ℕ → Places → Type 0
-  BestFound limit (At i j) = BestPlaces limit i j
-  BestFound limit Nowhere = (a b : ℕ) → a < length times → b < length more_times → Within energy limit (sum_at a b) → ⊥
+  abbrev pub BestFound : ℕ → Option (ℕ × ℕ) → Type 0
+  BestFound limit (Some (i, j)) = BestPlaces limit i j
+  BestFound limit None = (a b : ℕ) → a < length times → b < length more_times → Within energy limit (sum_at a b) → ⊥

@@ -1,24 +1,13 @@
 -- Which list is told by the stored lists between two junctions.
 use Rattle.std.specs.Prelude.{◌≡◌, ℕ}
-use mathlib.Core.List.{List, [], Memᴰ}
-use Rattle.paths.specs.Weights.{energy, Beats, Rising}
+use mathlib.Core.List.{List, []}
 use Rattle.lists.specs.Entries.{Weight}
+use Rattle.spans.specs.working.Below.{ListOf}
 use Rattle.stored.specs.Stored.{list_at}
 use Rattle.stored.specs.working.Formed.{ListFits}
 use Rattle.query.specs.declared.Between.{Between}
 use Rattle.query.specs.declared.Between.TheVariants.{Nothing, List as OneList, Lists as TwoLists}
 use Rattle.query.specs.working.Sums.{SumIn, Row, RowFits}
-
--- A pair of the set that none of it beats
-pub record UnbeatenOf (Has : Weight → Type 0) (p : Weight) : Type 0 where
-  pub among : Has p
-  pub unbeaten : (q : Weight) → Has q → Beats energy q p → ⊥
-
--- The unbeaten pairs of a set, each once, in order
-pub record ListOf (Has : Weight → Type 0) (l : List Weight) : Type 0 where
-  pub rising : Rising energy l
-  pub real : {p : Weight} → Memᴰ p l → UnbeatenOf Has p
-  pub complete : {p : Weight} → UnbeatenOf Has p → Memᴰ p l
 
 -- The list stored at a byte
 pub record StoredList (labels : List ℕ) (at : ℕ) (l : List Weight) : Type 0 where

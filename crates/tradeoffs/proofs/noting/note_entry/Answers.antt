@@ -1,14 +1,10 @@
 -- Each turn notes the sum with one far entry more, and what stands behind the span makes no difference to it.
-use native.Mathlib.Omega.{arith}
 use Rattle.spans.proofs.TableLaws.{entry-none, entry_all, entry-later, entry_more, entry-beyond}
 use Rattle.tradeoffs.proofs.NotingLaws.{level_falls}
 use Rattle.tradeoffs.proofs.noting.note_entry.Goals as goal
 
 pub loop-j-init : goal.loop-j-init
 loop-j-init c = entry-none _ _ _ c.requires.leasts_len
-
-pub sum_at-sum-requires : goal.sum_at-sum-requires
-sum_at-sum-requires c = record { list_fits = c.requires.list_fits; i_bound = (c.requires.i_bound.0, omega (arith, c.requires.i_bound.1, c.loop-j.invariant.in_range, c.loop-j-test.true)) }
 
 pub seconds_behind-second-requires : goal.seconds_behind-second-requires
 seconds_behind-second-requires c = entry-later c.loop-j.invariant c.loop-j-test.true c.sum_at-sum.ensures.time_is c.requires.none_before

@@ -5,6 +5,3 @@ use Rattle.tradeoffs.proofs.noting.note_entry.Given as goal
 
 abbrev pub invariant-loop-j : goal.invariant-loop-j
 invariant-loop-j l = EntryNoted (sum_of l.labels l.near l.far l.i) l.end l.first.0 l.initial.leasts l.j l.leasts
-
-abbrev pub decreases-loop-j : goal.decreases-loop-j
-decreases-loop-j l = l.j

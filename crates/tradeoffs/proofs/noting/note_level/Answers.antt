@@ -2,28 +2,21 @@
 use Prim.Native.Nat.{◌<◌}
 use native.Mathlib.Omega.{arith}
 use Rattle.forest.specs.LabelFile.{count_at}
-use Rattle.query.proofs.ListPlaces.{entry-inside}
 use Rattle.spans.proofs.TableLaws.{sums_none, sums_all, sums_unfit, sums_end, sums-later, sums_next}
 use Rattle.tradeoffs.proofs.NotingLaws.{level_before, level-lowered, level_rise, level-fitting}
 use Rattle.tradeoffs.proofs.noting.note_level.Goals as goal
 
 pub loop-i-init : goal.loop-i-init
-loop-i-init c = sums_none _ _ _ _ _ c.requires.leasts_len c.count_at-j.ensures
-
-pub energy_at-requires : goal.energy_at-requires
-energy_at-requires c = entry-inside c.requires.list_fits.0 (omega (arith, c.count_at-count.ensures))
-
-pub fitting_from-j-requires : goal.fitting_from-j-requires
-fitting_from-j-requires c = record { list_fits = c.requires.list_fits.1; beside_le_most_figure = (omega (arith, c.energy_at.ensures, (c.requires.list_fits.0.fitting_energy c.loop-i.i (omega (arith, c.count_at-count.ensures))).1), c.loop-i.invariant.in_far) }
+loop-i-init c = sums_none _ _ _ _ _ c.requires.leasts_len c.count-j.ensures.value
 
 pub returns-then-j-eq0 : goal.returns-then-j-eq0
 returns-then-j-eq0 c = level-lowered
-    (sums_unfit c.loop-i.invariant (level_rise c.requires.list_fits.0 c.requires.list_fits.1) (omega (arith, c.count_at-count.ensures)) (level-fitting c.args.near c.loop-i.i c.energy_at.ensures c.fitting_from-j.ensures) c.if-j-eq0.true)
+    (sums_unfit c.loop-i.invariant (level_rise c.requires.list_fits.0 c.requires.list_fits.1) (omega (arith, c.count-i-end.ensures.value)) (level-fitting c.args.near c.loop-i.i c.energy.ensures.value c.fitting_from-j.ensures) c.if-j-eq0.true)
 
 pub note_entry-requires : goal.note_entry-requires
 note_entry-requires c = let rise = level_rise c.requires.list_fits.0 c.requires.list_fits.1 in
-    let fitting = level-fitting c.args.near c.loop-i.i c.energy_at.ensures c.fitting_from-j.ensures in
-    let turn : c.loop-i.i < count_at c.args.labels.now c.args.near = omega (arith, c.count_at-count.ensures) in
+    let fitting = level-fitting c.args.near c.loop-i.i c.energy.ensures.value c.fitting_from-j.ensures in
+    let turn : c.loop-i.i < count_at c.args.labels.now c.args.near = omega (arith, c.count-i-end.ensures.value) in
     record {
       list_fits = c.requires.list_fits;
       i_bound = (turn, sums_end c.loop-i.invariant rise turn fitting);
@@ -32,8 +25,8 @@ note_entry-requires c = let rise = level_rise c.requires.list_fits.0 c.requires.
     }
 
 pub loop-i-preserved : goal.loop-i-preserved
-loop-i-preserved c = sums_next c.loop-i.invariant (level_rise c.requires.list_fits.0 c.requires.list_fits.1) (omega (arith, c.count_at-count.ensures))
-    (level-fitting c.args.near c.loop-i.i c.energy_at.ensures c.fitting_from-j.ensures) c.note_entry.ensures
+loop-i-preserved c = sums_next c.loop-i.invariant (level_rise c.requires.list_fits.0 c.requires.list_fits.1) (omega (arith, c.count-i-end.ensures.value))
+    (level-fitting c.args.near c.loop-i.i c.energy.ensures.value c.fitting_from-j.ensures) c.note_entry.ensures
 
 pub returns : goal.returns
-returns c = level-lowered (sums_all c.loop-i.invariant (omega (arith, c.count_at-count.ensures)))
+returns c = level-lowered (sums_all c.loop-i.invariant (omega (arith, c.count-i-end.ensures.value)))

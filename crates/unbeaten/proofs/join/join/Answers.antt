@@ -1,29 +1,29 @@
--- A number that is not 0 refuses; after that the join is counted, the room tested, and only then the slices are filled.
-use mathlib.Core.Path.{refl}
-use mathlib.Core.Logic.{inl, inr}
-use native.Mathlib.Omega.{arith}
-use Rattle.unbeaten.proofs.JoinAnswers.{lists-formed, refused_form, refused-room, answered}
+-- The form decides first; after that the join is counted, the room tested, and only then the slices are filled.
+use Rattle.std.proofs.Common.{sym, arith}
+use Rattle.std.proofs.lemmas.Result.{err_from_is_err_and}
+use Rattle.unbeaten.proofs.JoinSteps.{join-listed, join-counted, join-times, join-energies}
+use Rattle.unbeaten.proofs.JoinAnswers.{both-lists, refused_form, refused-room, answered}
 use Rattle.unbeaten.proofs.join.join.Goals as goal
 
-pub returns-then-number-eq41 : goal.returns-then-number-eq41
-returns-then-number-eq41 c = refused_form c.join_number-number.ensures 41 c.if-number-eq41.true (λ z. omega arith)
+pub returns-in_err-check_form : goal.returns-in_err-check_form
+returns-in_err-check_form c =
+    let p = err_from_is_err_and c.from_residual.result c.from_residual.ensures.1 in
+    rw (p.1, p.2) (refused_form c.in_err-check_form.field-0.0 c.in_err-check_form.ensures)
 
-pub returns-then-number-eq42 : goal.returns-then-number-eq42
-returns-then-number-eq42 c = refused_form c.join_number-number.ensures 42 c.if-number-eq42.true (λ z. omega arith)
+pub count_below-count-requires-clause-is_formed : goal.count_below-count-requires-clause-is_formed
+count_below-count-requires-clause-is_formed c = both-lists (sym c.in_ok-check_form.ensures)
 
-pub join_count-count-requires : goal.join_count-count-requires
-join_count-count-requires c = let both = lists-formed c.join_number-number.ensures c.if-number-eq41.false c.if-number-eq42.false in
-    record { list = both.0; list_2 = both.1; leasts_len = refl }
+pub count_below-count-requires-clause-some_list : goal.count_below-count-requires-clause-some_list
+count_below-count-requires-clause-some_list c = record { list = _; right = join-listed (both-lists (sym c.in_ok-check_form.ensures)) }
 
-pub returns-then-out_times-room : goal.returns-then-out_times-room
-returns-then-out_times-room c = refused-room c.join_number-number.ensures c.if-number-eq41.false c.if-number-eq42.false c.join_count-count.ensures.value (inl c.if-out_times-room.true)
+pub returns-then-room-count : goal.returns-then-room-count
+returns-then-room-count c = refused-room (sym c.in_ok-check_form.ensures) (join-counted (both-lists (sym c.in_ok-check_form.ensures)) c.count_below-count.ensures.value) (omega arith)
 
-pub returns-then-out_energies-room : goal.returns-then-out_energies-room
-returns-then-out_energies-room c = refused-room c.join_number-number.ensures c.if-number-eq41.false c.if-number-eq42.false c.join_count-count.ensures.value (inr c.if-out_energies-room.true)
-
-pub join_fill-requires : goal.join_fill-requires
-join_fill-requires c = let both = lists-formed c.join_number-number.ensures c.if-number-eq41.false c.if-number-eq42.false in
-    record { list = both.0; list_2 = both.1; count_value = c.join_count-count.ensures.value; count_in_bounds = c.if-out_times-room.false; count_in_bounds_2 = c.if-out_energies-room.false; leasts_len = c.join_count-count.ensures.leasts_len_2 }
+pub fill_below-requires-clause-is_formed : goal.fill_below-requires-clause-is_formed
+fill_below-requires-clause-is_formed c = both-lists (sym c.in_ok-check_form.ensures)
 
 pub returns : goal.returns
-returns c = answered c.join_number-number.ensures c.if-number-eq41.false c.if-number-eq42.false c.join_count-count.ensures.value c.if-out_times-room.false c.if-out_energies-room.false c.join_fill.ensures.out_times_after c.join_fill.ensures.out_energies_after
+returns c =
+    let both = both-lists (sym c.in_ok-check_form.ensures) in
+    answered (sym c.in_ok-check_form.ensures) (join-counted both c.count_below-count.ensures.value) (omega arith) (join-times both c.fill_below.ensures)
+    (join-energies both c.fill_below.ensures)

@@ -5,6 +5,3 @@ use Rattle.unbeaten.proofs.noting.note_entry.Given as goal
 
 abbrev pub invariant-loop-j : goal.invariant-loop-j
 invariant-loop-j l = EntryNoted (sums_with l.time.0 l.energy.0 l.more_times l.more_energies) l.end l.first.0 l.initial.leasts l.j l.leasts
-
-abbrev pub decreases-loop-j : goal.decreases-loop-j
-decreases-loop-j l = l.j

@@ -1,0 +1,11 @@
+-- What is noted next below the bound is the best below it, and where nothing is noted one walk finds it.
+use Rattle.std.proofs.Common.{refl, arith}
+use Rattle.spans.proofs.BelowLaws.{below-noted}
+use Rattle.spans.proofs.sums.next_below.Goals as goal
+
+pub returns-then-second-span : goal.returns-then-second-span
+returns-then-second-span g c =
+    record {
+      long = c.requires.waiting.long;
+      told = below-noted c.requires.waiting (omega arith) c.first_below-second.ensures c.if-second-span.true c.time_behind.ensures refl;
+    }
