@@ -21,7 +21,7 @@ use Rattle.forest.specs.Forest.{depth_of, ancestor_of, is_ancestor, road_joins}
 use Rattle.forest.specs.working.Fits.{ParentsFit}
 use Rattle.network.specs.working.Fits.{NetworkFits}
 use Rattle.forest.proofs.Chains.{or_either, IsRoot, AllEnd, root?, depth-parent, depth-none, depth-some}
-use Rattle.forest.proofs.Chains.{ancestor-none, ancestor-below, one_up, climbed}
+use Rattle.forest.proofs.Chains.{Climbed, ancestor-none, ancestor-below, one_up, climbed}
 
 -- ---- The parents as a function
 
@@ -58,6 +58,18 @@ module _ (labels : List ℕ) where
       pick (no h) r = let f = parents_off_map v (omega arith) in let z : ◌≡◌ {A = ℕ} 0 1 = cc in absurd (omega arith)
       pick (yes h) (yes r) = let f = parents-root v r in let z : ◌≡◌ {A = ℕ} 0 1 = cc in absurd (omega arith)
       pick (yes h) (no r) = let f = parents-child v h r in record { on_map = h; no_root = r; parent = cc }
+
+  -- a junction that has none is a root
+  pub parents-none : {v : ℕ} → v < junctions_of labels → parents_of labels v ≡ none → IsRoot labels v
+  parents-none {v} below e = pick (root? labels v)
+    where
+      pick : Dec (IsRoot labels v) → IsRoot labels v
+      pick (yes r) = r
+      pick (no r) = let f = parents-child v below r in let z : ◌≡◌ {A = ℕ} 0 1 = cc in absurd (omega arith)
+
+-- where 15 was passed, a parent is a junction one step above
+pub parent_up : {labels : List ℕ} {v u : ℕ} → ParentsFit labels → parents_of labels v ≡ some u → Climbed labels v 1 u
+parent_up {labels} {v} fit e = let has = parents-some labels e in rw (← has.parent) (one_up fit v has.on_map has.no_root)
 
 -- ---- Ancestors are counted
 

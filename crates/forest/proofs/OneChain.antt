@@ -1,23 +1,25 @@
 -- Feet: why two junctions above one are related, and the loops over feet.
 -- In this order: two ancestors of one; an ancestor's parent; the table; climbing to a junction with the same foot.
 use mathlib.Core.Path.{◌≡◌, sym, ap, ◌∙◌}
-use mathlib.Core.Logic.{◌⊎◌, inl, inr}
 use mathlib.Core.Bool.{true}
 use mathlib.Core.List.{List}
+use mathlib.Core.Option.{some}
+use Rattle.std.specs.Prelude.{Option, None, Some}
 use Prim.Native.Nat.{ℕ, suc, ◌+◌, ◌-◌, ◌≤◌, ◌<◌}
 use native.Mathlib.Decide.{ℕ_discrete}
 use native.Mathlib.Omega.{arith}
 use lib.Dec.{leb, eqb}
 use lib.ListN.{get_or, set, length-set, replicate, length-replicate, get_or-replicate}
+use lib.Seq.{get_or-set_same, get_or-set_other}
 use borrow.Author.Tests.{leb-true, le-leb, lt-leb, eqb-true, eq-eqb, ne_eqb}
 use Rattle.refusals.proofs.Order.{and_both, and_true}
 use Rattle.network.specs.NetworkFile.{junctions_of}
-use Rattle.forest.specs.LabelFile.{parent_at, no_parent}
+use Rattle.forest.specs.LabelFile.{parent_at, parents_of}
 use Rattle.forest.specs.Forest.{depth_of, ancestor_of, is_ancestor}
 use Rattle.forest.specs.working.Fits.{ParentsFit, DepthsFilled}
 use Rattle.forest.specs.working.ParentsRead.{FeetRight, OneFoot}
+use Rattle.forest.proofs.Forest.{parents-some, parent_up}
 use Rattle.forest.proofs.Chains.{IsRoot, Climbed, depth-some, ancestor-none, ancestor-below, ancestor_add, ancestor-more, one_up}
-use Rattle.forest.proofs.ParentLoops.{stored_or_old}
 
 -- what the test of an ancestor tells: it is no deeper, and the climb by the difference meets it
 record Met (labels : List ℕ) (u v : ℕ) : Type 0 where
@@ -87,67 +89,59 @@ above_parent {labels} {u} v fit below is no_root e = rw is (met_ancestor (record
 
 -- ---- The table
 
--- a table that is right stays so where what is stored is no junction, or is one below
-pub feet_more :
-    {labels feet : List ℕ} (x foot : ℕ) → FeetRight labels feet → x < 1024 → (foot < junctions_of labels → is_ancestor labels x foot ≡ true) → FeetRight labels (set feet x foot)
+-- a table that is right stays so where a junction below is stored
+feet_more :
+    {labels : List ℕ} {feet : List (Option ℕ)} (x foot : ℕ) → FeetRight labels feet → x < 1024 → is_ancestor labels x foot ≡ true → FeetRight labels (set feet x (Some foot))
 feet_more {labels} {feet} x foot now inside below =
     record {
-      places = length-set feet x foot ∙ now.places;
-      right = λ w l h. pick w l h (stored_or_old feet x foot w (omega (arith, now.places)));
+      places = length-set feet x (Some foot) ∙ now.places;
+      right = λ w f l e. pick w f l e (ℕ_discrete w x);
     }
   where
-    pick :
-        (w : ℕ) → w < junctions_of labels → get_or (set feet x foot) w 0 < junctions_of labels →
-        ((w ≡ x) × (get_or (set feet x foot) w 0 ≡ foot)) ⊎ (get_or (set feet x foot) w 0 ≡ get_or feet w 0) →
-        is_ancestor labels w (get_or (set feet x foot) w 0) ≡ true
-    pick w l h (inl same) =
-        ap (is_ancestor labels w) same.1 ∙ (ap (λ y. is_ancestor labels y foot) same.0 ∙ below (omega (arith, same.1)))
-    pick w l h (inr old) = ap (is_ancestor labels w) old ∙ now.right w l (omega (arith, old))
+    pick : (w f : ℕ) → w < junctions_of labels → get_or (set feet x (Some foot)) w None ≡ Some f → Dec (w ≡ x) → is_ancestor labels w f ≡ true
+    pick w f l e (yes same) =
+        let stored = get_or-set_same feet x (Some foot) None (omega (arith, now.places)) in
+        let is : foot ≡ f = cc in
+        rw (same, ← is) below
+    pick w f l e (no apart) = now.right w f l (sym (get_or-set_other feet x w (Some foot) None apart) ∙ e)
 
 -- no foot is known yet
-pub feet_none : (labels : List ℕ) → junctions_of labels ≤ 1024 → FeetRight labels (replicate 1024 65535)
+pub feet_none : (labels : List ℕ) → junctions_of labels ≤ 1024 → FeetRight labels (replicate 1024 None)
 feet_none labels few =
     record {
-      places = length-replicate {A = ℕ} 1024 65535;
-      right = λ x l h. absurd (omega (arith, get_or-replicate {A = ℕ} 1024 x 65535 0 (omega arith)));
+      places = length-replicate {A = Option ℕ} 1024 None;
+      right = λ x foot l e.
+          let none = get_or-replicate {A = Option ℕ} 1024 x None None (omega arith) in
+          cc;
     }
 
--- a note that a junction has a child is no junction
-pub feet_noted : {labels feet : List ℕ} (parent note : ℕ) → ParentsFit labels → FeetRight labels feet → parent < junctions_of labels → 1024 ≤ note → FeetRight labels (set feet parent note)
-feet_noted parent note fit now below beyond =
-    feet_more parent note now (omega (arith, fit.few_junctions)) (λ h. absurd (omega (arith, fit.few_junctions)))
-
 -- The walk up from v has come to u
-pub record Walking (labels feet : List ℕ) (v u : ℕ) : Type 0 where
+pub record Walking (labels : List ℕ) (feet : List (Option ℕ)) (v u : ℕ) : Type 0 where
   pub feet_right : FeetRight labels feet
   pub on_map : u < junctions_of labels
   pub above : is_ancestor labels u v ≡ true
 
 -- it starts at v
-pub walking_start : {labels feet : List ℕ} {v : ℕ} → FeetRight labels feet → v < junctions_of labels → Walking labels feet v v
+pub walking_start : {labels : List ℕ} {feet : List (Option ℕ)} {v : ℕ} → FeetRight labels feet → v < junctions_of labels → Walking labels feet v v
 walking_start {labels} {v = v} now below = record { feet_right = now; on_map = below; above = above-itself labels v }
 
-module _ {labels feet : List ℕ} {v u foot : ℕ} (fit : ParentsFit labels) (now : Walking labels feet v u) (is-foot : foot ≡ v) where
+module _ {labels : List ℕ} {feet : List (Option ℕ)} {v u : ℕ} (fit : ParentsFit labels) (now : Walking labels feet v u) where
   -- v is the foot of u
-  pub walking_stored : FeetRight labels (set feet u foot)
-  walking_stored =
-      feet_more u foot now.feet_right (omega (arith, now.on_map, fit.few_junctions)) (λ h. ap (is_ancestor labels u) is-foot ∙ now.above)
+  pub walking_stored : FeetRight labels (set feet u (Some v))
+  walking_stored = feet_more u v now.feet_right (omega (arith, now.on_map, fit.few_junctions)) now.above
 
-  module _ {parent : ℕ} (is : parent ≡ parent_at labels u) (other : parent ≡ no_parent → ⊥) where
-    no_root : IsRoot labels u → ⊥
-    no_root r = other (is ∙ r)
-
-    -- and the walk goes on to the parent, which is less deep
-    pub walking_more : Walking labels (set feet u foot) v parent
+  -- and the walk goes on to the parent, which is less deep
+  module _ {parent : ℕ} (is : parents_of labels u ≡ some parent) where
+    pub walking_more : Walking labels (set feet u (Some v)) v parent
     walking_more =
         record {
           feet_right = walking_stored;
-          on_map = rw is (one_up fit u now.on_map no_root).on_map;
-          above = above_parent v fit now.on_map is no_root now.above;
+          on_map = (parent_up fit is).on_map;
+          above = above_parent v fit now.on_map (sym (parents-some labels is).parent) (parents-some labels is).no_root now.above;
         }
 
     pub walking_less : depth_of labels parent < depth_of labels u
-    walking_less = rw is (omega (arith, (one_up fit u now.on_map no_root).depth))
+    walking_less = omega (arith, parent_up fit is)
 
 -- ---- Climbing to a junction with the same foot
 
@@ -162,15 +156,10 @@ module _ {labels depths : List ℕ} (fit : ParentsFit labels) (filled : DepthsFi
     depths_are = (filled.depth u u-below, filled.depth w now.on_map)
 
     -- a junction with the same foot is below u
-    pub lifting_meets : {feet : List ℕ} {n : ℕ} → FeetRight labels feet → n ≡ junctions_of labels → get_or depths u 0 < get_or depths w 0 → OneFoot feet n u w → true ≡ is_ancestor labels u v
-    lifting_meets {feet} right size deeper one =
-        sym (related_by_foot labels u w (get_or feet u 0) upper lower (omega (arith, depths_are))) ∙ now.same
-      where
-        upper : is_ancestor labels u (get_or feet u 0) ≡ true
-        upper = right.right u u-below (omega (arith, one.known))
-
-        lower : is_ancestor labels w (get_or feet u 0) ≡ true
-        lower = ap (is_ancestor labels w) (sym one.same) ∙ right.right w now.on_map (omega (arith, one.same, one.known))
+    pub lifting_meets : {feet : List (Option ℕ)} → FeetRight labels feet → get_or depths u 0 < get_or depths w 0 → OneFoot feet u w → true ≡ is_ancestor labels u v
+    lifting_meets right deeper one =
+        sym (related_by_foot labels u w one.foot (right.right u one.foot u-below one.of_u) (right.right w one.foot now.on_map one.of_v) (omega (arith, depths_are)))
+        ∙ now.same
 
     -- at the depth of u only u itself is
     pub lifting_end : get_or depths w 0 ≤ get_or depths u 0 → eqb w u ≡ is_ancestor labels u v

@@ -5,101 +5,70 @@ ghost use Rattle.forest.specs.Forest.{is_ancestor};
 ghost use Rattle.forest.specs.working.Fits.{ParentsFit, DepthsFilled};
 ghost use Rattle.forest.specs.working.ParentsRead.{FeetRight, OneFoot};
 
-use crate::parents::{NO_PARENT, parent_at};
+use crate::parents::{parent_at, parent_of};
 use network::header::junctions_of;
 
-// What stands for a foot that is not known: of a junction that has no child, and of one that has.
-pub const NO_CHILD: u16 = 65535;
-
-const SOME_CHILD: u16 = 65534;
-
-fn wide(x: u16) -> u32
-    ensures { result ≡ x }
-{
-    x as u32
-}
-
-// Notes of v's parent that it has a child.
-fn note_child(labels: &[u8], feet: &mut [u16; 1024], n: u32, v: usize)
+// Which junctions have a child.
+fn parents_noted(labels: &[u8]) -> [bool; 1024]
     requires parents_fit { ParentsFit labels.now }
-    requires feet_right { FeetRight labels.now feet.old }
-    requires n_value { (n ≡ junctions_of labels.now) × (v < n) }
-    ensures { FeetRight labels.now feet.new }
 {
-    let parent = parent_at(labels, v);
-    if parent >= n {
-        return;
-    }
-    feet[parent as usize] = SOME_CHILD;
-}
-
-// Notes which junctions have a child.
-fn note_children(labels: &[u8], feet: &mut [u16; 1024], n: u32)
-    requires parents_fit { ParentsFit labels.now }
-    requires feet_right { FeetRight labels.now feet.old }
-    requires n_value { n ≡ junctions_of labels.now }
-    ensures { FeetRight labels.now feet.new }
-{
-    let end = n as usize;
-    let mut v: usize = 0;
-    while v < end {
-        note_child(labels, feet, n, v);
-        v += 1;
-    }
-}
-
-// Makes v, if it has no child, the foot of itself and of the junctions above it, up to the first that has one.
-fn walk_up(labels: &[u8], feet: &mut [u16; 1024], n: u32, v: usize)
-    requires parents_fit { ParentsFit labels.now }
-    requires feet_right { FeetRight labels.now feet.old }
-    requires n_value { (n ≡ junctions_of labels.now) × (v < n) }
-    ensures { FeetRight labels.now feet.new }
-{
-    if feet[v] != NO_CHILD {
-        return;
-    }
-    let foot = v as u16;
-    let mut u = v;
-    while wide(feet[u]) >= n {
-        feet[u] = foot;
-        let parent = parent_at(labels, u);
-        if parent == NO_PARENT {
-            return;
+    let mut has_child = [false; 1024];
+    for v in 0..junctions_of(labels) as usize {
+        if let Some(parent) = parent_of(labels, v) {
+            has_child[parent] = true;
         }
-        u = parent as usize;
+    }
+    has_child
+}
+
+// Makes v the foot of itself and of the junctions above it, up to the first that has one.
+fn walk_up(labels: &[u8], feet: &mut [Option<u16>; 1024], v: usize)
+    requires parents_fit { ParentsFit labels.now }
+    requires feet_right { FeetRight labels.now feet.old }
+    requires v_bound { v < junctions_of labels.now }
+    ensures { FeetRight labels.now feet.new }
+{
+    let mut u = v;
+    // A chain: each junction leads to its parent.
+    while feet[u].is_none() {
+        feet[u] = Some(v as u16);
+        let Some(parent) = parent_of(labels, u) else {
+            return;
+        };
+        u = parent;
     }
 }
 
 // Fills in the feet.
-pub fn fill_feet(labels: &[u8], feet: &mut [u16; 1024])
+pub fn fill_feet(labels: &[u8], feet: &mut [Option<u16>; 1024])
     requires parents_fit { ParentsFit labels.now }
     requires feet_right { FeetRight labels.now feet.old }
     ensures { FeetRight labels.now feet.new }
 {
-    let n = junctions_of(labels);
-    note_children(labels, feet, n);
-    let end = n as usize;
-    let mut v: usize = 0;
-    while v < end {
-        walk_up(labels, feet, n, v);
-        v += 1;
+    let has_child = parents_noted(labels);
+    for v in 0..junctions_of(labels) as usize {
+        if !has_child[v] {
+            walk_up(labels, feet, v);
+        }
     }
 }
 
 // Whether u and v have one foot.
-fn one_foot(feet: &[u16; 1024], n: u32, u: usize, v: usize) -> bool
+fn one_foot(feet: &[Option<u16>; 1024], u: usize, v: usize) -> bool
     requires { (u < 1024) × (v < 1024) }
-    ensures { result ≡ true → OneFoot feet.now n u v }
+    ensures { result ≡ true → OneFoot feet.now u v }
 {
-    let foot = wide(feet[u]);
-    if foot >= n {
-        return false;
-    }
-    wide(feet[v]) == foot
+    feet[u].is_some() && feet[u] == feet[v]
 }
 
 // Whether u is v or an ancestor of v. The climb from v is over where it meets a junction that has its foot in common with u.
-pub fn is_above(labels: &[u8], depths: &[u32; 1024], feet: &[u16; 1024], u: usize, v: usize) -> bool
+pub fn is_above(
+    labels: &[u8],
+    depths: &[u32; 1024],
+    feet: &[Option<u16>; 1024],
+    u: usize,
+    v: usize,
+) -> bool
     requires parents_fit { ParentsFit labels.now }
     requires depths_filled { DepthsFilled labels.now depths.now }
     requires feet_right { FeetRight labels.now feet.now }
@@ -107,14 +76,13 @@ pub fn is_above(labels: &[u8], depths: &[u32; 1024], feet: &[u16; 1024], u: usiz
     requires v_bound { v < junctions_of labels.now }
     ensures { result ≡ is_ancestor labels.now u v }
 {
-    let n = junctions_of(labels);
     let mut w = v;
+    // A chain: each junction leads to its parent.
     while depths[u] < depths[w] {
-        if one_foot(feet, n, u, w) {
+        if one_foot(feet, u, w) {
             return true;
         }
-        let parent = parent_at(labels, w);
-        w = parent as usize;
+        w = parent_at(labels, w) as usize;
     }
     w == u
 }

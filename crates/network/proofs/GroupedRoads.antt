@@ -1,58 +1,58 @@
 -- The table of grouped roads: how it fills, road by road from the last to the first, and what it holds in the end.
--- In this order: the reads of one road; no road yet; one road more; all roads; the next road; what keeps them grouped.
+-- In this order: no road yet; one road more; the next road; what keeps them grouped.
 use mathlib.Core.Path.{◌≡◌, sym, ◌∙◌}
 use mathlib.Core.Bool.{true}
 use mathlib.Core.List.{List}
-use Prim.Native.Nat.{ℕ, suc, ◌+◌, ◌-◌, ◌*◌, ◌≤◌, ◌<◌}
+use Prim.Native.Nat.{ℕ, suc, ◌+◌, ◌*◌, ◌≤◌, ◌<◌}
 use native.Mathlib.Decide.{ℕ_discrete}
 use native.Mathlib.Omega.{arith}
 use native.Mathlib.Numerals.{add-one}
-use lib.ListN.{length, get_or, set, length-set}
+use borrow.Author.Rules.{rules}
+use borrow.Rule.Slice.PartMut.{mid_of, put_mid}
+use lib.ListN.{length, get_or, set, replicate, length-set}
 use lib.Seq.{get_or-set_same, get_or-set_other}
+use Rattle.std.proofs.lemmas.List.{places}
 use Rattle.tables.specs.working.Layout.{firsts_from, nexts_from, order_from, table_places, StaysBelow}
 use Rattle.tables.proofs.Stays.{stays_all, stays_set}
 use Rattle.file_bytes.specs.working.Reads.{ReadU16}
 use Rattle.network.specs.NetworkFile.{junctions_of, roads_of, road_low, road_high}
 use Rattle.network.specs.working.Roads.{touches, next_road, Grouped}
-use Rattle.network.specs.working.RoadsRead.{ReadOther, FirstsFilled, GroupedFrom}
+use Rattle.network.specs.working.RoadsRead.{FirstsFilled, GroupedFrom}
 use Rattle.network.specs.working.Fits.{NetworkFits}
-use Rattle.network.proofs.RoadsAt.{next_road_end, next_road-here, next_road_skip, touches_low, touches-high, touches-neither, high_if_not_low, other_of_low, other_of_high}
-
--- ---- The reads of one road
-
-module _ {net : List ℕ} {v k low high : ℕ} (low-is : ReadU16 net (16 + 8 * k) low) (high_is : ReadU16 net (18 + 8 * k) high) where
-  -- v is the lower end
-  pub read-other-high : low ≡ v → ReadOther net v k high
-  read-other-high e = record { is = high_is.is ∙ sym (other_of_low net v k (sym low-is.is ∙ e)); small = high_is.small }
-
-  -- v is not the lower end
-  pub read_other_low : (low ≡ v → ⊥) → ReadOther net v k low
-  read_other_low apart = record { is = low-is.is ∙ sym (other_of_high net v k (λ e. apart (low-is.is ∙ e))); small = low-is.small }
+use Rattle.network.proofs.RoadsAt.{next_road_end, next_road-here, next_road_skip, touches_low, touches-high, touches-neither, high_if_not_low}
 
 -- ---- No road yet
 
--- no place filled
-pub filled_none : {tables : List ℕ} {x : ℕ} → length tables ≡ table_places → FirstsFilled tables tables x 0
-filled_none {tables} places = record { places = places; each = λ v below. absurd (omega arith); starts_stay = stays_all firsts_from tables }
+-- a part was written over
+module _ (from n x : ℕ) (before : List ℕ) (inside : from + n ≤ length before) where
+  part_places : length (mid_of from n before) ≡ n
+  part_places = search (rules, places)
 
--- one place more
-pub filled_more : {before tables : List ℕ} {x n : ℕ} → FirstsFilled before tables x n → n < 1024 → FirstsFilled before (set tables (firsts_from + n) x) x (n + 1)
-filled_more {before} {tables} {x} {n} filled h =
+  abbrev filled : List ℕ
+  filled = put_mid from n before (replicate n x)
+
+  filled_length : length filled ≡ length before
+  filled_length = search (rules, places)
+
+  filled_each : (v : ℕ) → v < n → get_or filled (from + v) 0 ≡ x
+  filled_each v below = search (rules, places)
+
+  filled_earlier : (i : ℕ) → i < from → get_or filled i 0 ≡ get_or before i 0
+  filled_earlier i below = search (rules, places)
+
+-- so it is with the first roads
+pub firsts_filled :
+    {tables part : List ℕ} {x : ℕ} →
+    length tables ≡ table_places → part ≡ replicate (length (mid_of firsts_from 1024 tables)) x → FirstsFilled tables (put_mid firsts_from 1024 tables part) x 1024
+firsts_filled {tables} {x = x} full is =
+    let inside : firsts_from + 1024 ≤ length tables = omega arith in
+    rw (is, part_places firsts_from 1024 x tables inside) (
     record {
-      places = simp length-set filled.places;
-      each = λ v below. pick v below (ℕ_discrete v n);
-      starts_stay = stays_set (firsts_from + n) x filled.starts_stay (omega arith);
+      places = filled_length firsts_from 1024 x tables inside ∙ full;
+      each = filled_each firsts_from 1024 x tables inside;
+      starts_stay = record { one_length = filled_length firsts_from 1024 x tables inside; stays = filled_earlier firsts_from 1024 x tables inside };
     }
-  where
-    pick : (v : ℕ) → v < n + 1 → Dec (v ≡ n) → get_or (set tables (firsts_from + n) x) (firsts_from + v) 0 ≡ x
-    pick v below (yes e) = rw e (get_or-set_same tables (firsts_from + n) x 0 (omega (arith, filled.places)))
-    pick v below (no apart) =
-        get_or-set_other tables (firsts_from + n) (firsts_from + v) x 0 (λ same. apart (omega arith)) ∙ filled.each v (omega arith)
-
--- all places
-pub filled_end : {before tables : List ℕ} {x n : ℕ} → FirstsFilled before tables x n → 1024 ≤ n → FirstsFilled before tables x 1024
-filled_end filled all =
-    record { places = filled.places; each = λ v below. filled.each v (omega arith); starts_stay = filled.starts_stay }
+    )
 
 -- behind the last road every junction's next road is none
 pub grouped-none : {net before tables : List ℕ} {roads : ℕ} → NetworkFits net → roads ≡ roads_of net → FirstsFilled before tables roads 1024 → GroupedFrom net tables roads
@@ -172,35 +172,12 @@ module _ {net : List ℕ} {k low high : ℕ} (fits : NetworkFits net) (stands : 
       (omega arith))
       (omega arith)
 
--- what the loop knows of k, put_road asks of the road before it
-pub road-before : {net tables : List ℕ} {k : ℕ} → GroupedFrom net tables k → 0 < k → GroupedFrom net tables (k - 1 + 1)
-road-before {net} {tables} {k} grouped h = rw same grouped
-  where
-    same : k - 1 + 1 ≡ k
-    same = omega arith
-
--- ---- All roads
-
--- with the first road handled, all are
-pub grouped_all : {net tables : List ℕ} {k : ℕ} → GroupedFrom net tables k → k ≤ 0 → Grouped net tables
-grouped_all {net} {tables} {k} grouped h =
-    record {
-      places = grouped.places;
-      first = λ v on_map. grouped.first v on_map ∙ rw first;
-      next_low = λ j stands. grouped.next_low j (omega arith) stands;
-      next_high = λ j stands. grouped.next_high j (omega arith) stands;
-    }
-  where
-    first : k ≡ 0
-    first = omega arith
+-- by a name that code can cite
+pub ruleset places_of_ends = (ends-inside)
 
 -- ---- The next road
 
 module _ {net tables : List ℕ} {v k low : ℕ} (grouped : Grouped net tables) (stands : k < roads_of net) (low-is : ReadU16 net (16 + 8 * k) low) where
-  -- v is the lower end
-  pub next_at_low : low ≡ v → get_or tables (nexts_from + 2 * k) 0 ≡ next_road net v (suc k)
-  next_at_low e = rw (← e, low-is.is) (grouped.next_low k stands)
-
   -- v is the higher end
   pub next_at_high : touches net v k ≡ true → (low ≡ v → ⊥) → get_or tables (nexts_from + 2 * k + 1) 0 ≡ next_road net v (suc k)
   next_at_high here apart = rw (← high_if_not_low net v k (λ e. apart (low-is.is ∙ e)) here) (grouped.next_high k stands)

@@ -2,4 +2,5 @@
 pub mod Versions
 pub mod NetworkFile
 pub mod NetworkNumber
+pub mod NetworkRefusal
 pub mod working

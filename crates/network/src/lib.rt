@@ -3,5 +3,6 @@
 
 pub mod header;
 pub mod network;
+pub mod refusal;
 pub mod roads;
 pub mod versions;

@@ -209,13 +209,7 @@ module _
 
     -- ---- A child
 
-    module _ {parent p : ℕ} (read : parent ≡ parent_at labels v) (other : parent ≡ no_parent → ⊥) (widened : p ≡ parent) where
-      is : p ≡ parent_at labels v
-      is = widened ∙ read
-
-      child : p ≡ no_parent → ⊥
-      child root = other (sym widened ∙ root)
-
+    module _ {p : ℕ} (is : p ≡ parent_at labels v) (child : p ≡ no_parent → ⊥) where
       -- what the parent's block has so far
       abbrev room : ℕ
       room = get_or sizes p 0
@@ -375,7 +369,7 @@ pub merged_as : {labels sizes offsets : List ℕ} {total d e v : ℕ} → Merged
 merged_as now same = rw same at now
 
 module _ {labels sizes offsets : List ℕ} {total d : ℕ} (fit : ParentsFit labels) where
-  -- it goes on at the next junction of the same depth, begins where the deeper one ended, and ends behind the last
+  -- it goes on at the next junction of the same depth
   pub merged_next : {v r : ℕ} → Merged labels sizes offsets total d v → First labels d v r → Merged labels sizes offsets total d r
   merged_next {v} {r} now first =
       merged_same (λ w h done. pick w h done (dec_lt (1024 * d + w) (1024 * depth_of labels w + v))) (λ w h done. omega (arith, first.from_on)) now
@@ -386,29 +380,9 @@ module _ {labels sizes offsets : List ℕ} {total d : ℕ} (fit : ParentsFit lab
           let level : depth_of labels w ≡ d = omega (arith, first.few, fit.few_junctions) in
           absurd (first.skips w (omega arith) (omega arith) h level)
 
-  pub merged_begin : {r : ℕ} → Merged labels sizes offsets total (d + 1) 1024 → First labels d 0 r → Merged labels sizes offsets total d r
-  merged_begin now first = merged_next (merged_same (λ w h done. omega arith) (λ w h done. omega arith) now) first
-
-  pub merged_end : {v : ℕ} → Merged labels sizes offsets total d v → junctions_of labels ≤ v → v ≤ 1024 → Merged labels sizes offsets total d 1024
-  merged_end now past few = merged_same (λ w h done. omega arith) (λ w h done. omega arith) now
-
 -- ---- All
 
--- with level 0 merged all are, and the roots fill no more than there are junctions
-pub merged_all : {labels sizes offsets : List ℕ} {total level : ℕ} → Merged labels sizes offsets total level 1024 → level ≤ 0 → AllMerged labels sizes offsets
-merged_all now h =
-    let blocks = (merged_as {e = 0} now (omega arith)).blocks in
-    record {
-      size_places = blocks.size_places;
-      offset_places = blocks.offset_places;
-      itself = blocks.itself;
-      small = blocks.small;
-      of_root = λ w below done root. omega (arith, blocks.of_root w below done root, now.rests.all);
-      of_child = blocks.of_child;
-      apart = blocks.apart;
-    }
-
--- so the offsets are small
+-- with all merged the offsets are small
 pub offsets_small : {labels sizes offsets : List ℕ} → ParentsFit labels → AllMerged labels sizes offsets → OffsetsSmall labels offsets
 offsets_small {labels} {offsets = offsets} fit all = record { places = all.offset_places; small = λ w h. pick w h (root? labels w) }
   where

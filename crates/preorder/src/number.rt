@@ -12,12 +12,6 @@ use forest::parents::{NO_PARENT, parent_at};
 use network::header::junctions_of;
 use tables::{ORDER, SIZES, SPOTS};
 
-fn wide(x: u32) -> usize
-    ensures { result ≡ x }
-{
-    x as usize
-}
-
 // Chains the junctions by depth, from the last to the first, so that each depth has its junctions in order; each is a block of its own.
 fn chain_levels(
     labels: &[u8],
@@ -31,10 +25,8 @@ fn chain_levels(
     requires levels_from { LevelsFrom labels.now heads.old nexts.old sizes.old (junctions_of labels.now) }
     ensures { LevelsFrom labels.now heads.new nexts.new sizes.new 0 }
 {
-    let mut v = junctions_of(labels) as usize;
-    while v > 0 {
-        v -= 1;
-        let depth = wide(depths[v]);
+    for v in (0..junctions_of(labels) as usize).rev() {
+        let depth = depths[v] as usize;
         nexts[v] = heads[depth];
         heads[depth] = v as u32;
         sizes[v] = 1;
@@ -59,7 +51,7 @@ fn merge(
         offsets[v] = total;
         return total + size;
     }
-    let above = wide(parent);
+    let above = parent as usize;
     let room = sizes[above];
     offsets[v] = room;
     sizes[above] = room + size;
@@ -83,10 +75,11 @@ fn merge_level(
 {
     let n = junctions_of(labels) as usize;
     let mut filled = total;
-    let mut v = wide(heads[level]);
+    let mut v = heads[level] as usize;
+    // A chain: each junction leads to the next of its level.
     while v < n {
         filled = merge(labels, v, filled, sizes, offsets);
-        v = wide(nexts[v]);
+        v = nexts[v] as usize;
     }
     filled
 }
@@ -104,10 +97,8 @@ fn merge_all(
     requires merged { Merged labels.now sizes.old offsets.old 0 (junctions_of labels.now) 1024 }
     ensures { AllMerged labels.now sizes.new offsets.new }
 {
-    let mut level = junctions_of(labels) as usize;
-    let mut total: u32 = 0;
-    while level > 0 {
-        level -= 1;
+    let mut total = 0;
+    for level in (0..junctions_of(labels) as usize).rev() {
         total = merge_level(labels, level, heads, nexts, total, sizes, offsets);
     }
 }
@@ -123,7 +114,7 @@ fn place(labels: &[u8], v: usize, offsets: &[u32; 1024], spots: &mut [u32; 1024]
         spots[v] = offsets[v];
         return;
     }
-    let above = wide(parent);
+    let above = parent as usize;
     spots[v] = spots[above] + offsets[v];
 }
 
@@ -142,10 +133,11 @@ fn place_level(
     ensures { Placed labels.now offsets.now spots.new (level + 1) 0 }
 {
     let n = junctions_of(labels) as usize;
-    let mut v = wide(heads[level]);
+    let mut v = heads[level] as usize;
+    // A chain: each junction leads to the next of its level.
     while v < n {
         place(labels, v, offsets, spots);
-        v = wide(nexts[v]);
+        v = nexts[v] as usize;
     }
 }
 
@@ -162,11 +154,8 @@ fn place_all(
     requires spots_len { length spots.old ≡ 1024 }
     ensures { Placed labels.now offsets.now spots.new (junctions_of labels.now) 0 }
 {
-    let n = junctions_of(labels) as usize;
-    let mut level: usize = 0;
-    while level < n {
+    for level in 0..junctions_of(labels) as usize {
         place_level(labels, level, heads, nexts, offsets, spots);
-        level += 1;
     }
 }
 
@@ -175,11 +164,8 @@ fn list_order(n: usize, spots: &[u32; 1024], order: &mut [u32; 1024])
     requires { Spread n spots.now × (length spots.now ≡ 1024) × (length order.old ≡ 1024) }
     ensures { Listed spots.now order.new n }
 {
-    let mut v: usize = 0;
-    while v < n {
-        let spot = wide(spots[v]);
-        order[spot] = v as u32;
-        v += 1;
+    for v in 0..n {
+        order[spots[v] as usize] = v as u32;
     }
 }
 
@@ -195,13 +181,9 @@ fn copy_numbering(
     requires order_len { (length order.now ≡ 1024) × (length spots.now ≡ 1024) × (length sizes.now ≡ 1024) }
     ensures { CopiedBelow order.now spots.now sizes.now tables.old tables.new n }
 {
-    let mut i: usize = 0;
-    while i < n {
-        tables[ORDER + i] = order[i];
-        tables[SPOTS + i] = spots[i];
-        tables[SIZES + i] = sizes[i];
-        i += 1;
-    }
+    tables[ORDER..ORDER + n].copy_from_slice(&order[..n]);
+    tables[SPOTS..SPOTS + n].copy_from_slice(&spots[..n]);
+    tables[SIZES..SIZES + n].copy_from_slice(&sizes[..n]);
 }
 
 // The numbering of all junctions, into the lent table.
@@ -211,6 +193,7 @@ pub fn number(labels: &[u8], depths: &[u32; 1024], tables: &mut [u32; 13312])
     requires tables_len { length tables.old ≡ table_places }
     ensures { Numbered labels.now tables.new × StaysBelow order_from tables.old tables.new }
 {
+    // 1024 stands for no junction, so that a chain takes no more room than its numbers.
     let mut heads: [u32; 1024] = [1024; 1024];
     let mut nexts: [u32; 1024] = [0; 1024];
     let mut offsets: [u32; 1024] = [0; 1024];

@@ -1,5 +1,5 @@
 -- What the functions that read the parents ask of their callers, and tell them.
-use Rattle.std.specs.Prelude.{◌≡◌, Bool, true, false, List, ℕ, ◌≤◌, ◌<◌, length, get_or}
+use Rattle.std.specs.Prelude.{◌≡◌, Bool, true, false, List, ℕ, ◌≤◌, ◌<◌, length, get_or, Option, None, Some, MatchOption}
 use Rattle.network.specs.NetworkFile.{junctions_of}
 use Rattle.forest.specs.LabelFile.{lists_from}
 use Rattle.forest.specs.Forest.{depth_of, ancestor_of, is_ancestor, parent_fits, parents_pass}
@@ -17,20 +17,14 @@ pub record Climbable (labels : List ℕ) (n v : ℕ) : Type 0 where
   pub fits : (w : ℕ) → w < junctions_of labels → parent_fits labels w ≡ true
   pub on_map : v < junctions_of labels
 
--- No depth is known yet: n stands for one that is not
-pub record NoneKnown (n : ℕ) (depths : List ℕ) : Type 0 where
-  pub places : length depths ≡ 1024
-  pub unknown : (w : ℕ) → w < n → get_or depths w 0 ≡ n
-
 -- A number in the table that is below n is the depth
 pub record DepthsKnown (labels depths : List ℕ) : Type 0 where
   pub places : length depths ≡ 1024
   pub right : (w : ℕ) → w < junctions_of labels → get_or depths w 0 < junctions_of labels → get_or depths w 0 ≡ depth_of labels w
 
--- r is the depth of v, or n or more if its chain returns
-pub record DepthFound (labels : List ℕ) (v r : ℕ) : Type 0 where
-  pub near : r < junctions_of labels → r ≡ depth_of labels v
-  pub far : junctions_of labels ≤ r → junctions_of labels ≤ depth_of labels v
+-- r is the depth of v, or none if its chain returns
+abbrev pub DepthFound : List ℕ → ℕ → Option ℕ → Type 0
+DepthFound labels v r = MatchOption r (junctions_of labels ≤ depth_of labels v) (λ depth. (depth ≡ depth_of labels v) × (depth < junctions_of labels))
 
 -- The depth of v is known too; what was known still is
 pub record DepthsWritten (labels : List ℕ) (v : ℕ) (before after : List ℕ) : Type 0 where
@@ -55,12 +49,13 @@ pub record AncestorRead (labels : List ℕ) (v k r : ℕ) : Type 0 where
   pub is : r ≡ ancestor_of labels v k
   pub on_map : r < junctions_of labels
 
--- A number in the table that is below n is a junction below the one whose foot it is, or that itself
-pub record FeetRight (labels feet : List ℕ) : Type 0 where
+-- A foot in the table is a junction below the one whose foot it is, or that itself
+pub record FeetRight (labels : List ℕ) (feet : List (Option ℕ)) : Type 0 where
   pub places : length feet ≡ 1024
-  pub right : (x : ℕ) → x < junctions_of labels → get_or feet x 0 < junctions_of labels → is_ancestor labels x (get_or feet x 0) ≡ true
+  pub right : (x foot : ℕ) → x < junctions_of labels → get_or feet x None ≡ Some foot → is_ancestor labels x foot ≡ true
 
 -- u and v have one foot
-pub record OneFoot (feet : List ℕ) (n u v : ℕ) : Type 0 where
-  pub known : get_or feet u 0 < n
-  pub same : get_or feet v 0 ≡ get_or feet u 0
+pub record OneFoot (feet : List (Option ℕ)) (u v : ℕ) : Type 0 where
+  pub foot : ℕ
+  pub of_u : get_or feet u None ≡ Some foot
+  pub of_v : get_or feet v None ≡ Some foot

@@ -1,10 +1,7 @@
 -- The loop is at the ancestor that it has climbed to, and stops at the k-th.
-use Prim.Native.Nat.{◌-◌}
-use Rattle.forest.proofs.ParentLoops.{Climb}
+use mathlib.Core.Path.{◌≡◌}
+use Rattle.forest.specs.Forest.{ancestor_of}
 use Rattle.forest.proofs.parents.ancestor_of.Given as goal
 
-abbrev pub invariant-loop-steps : goal.invariant-loop-steps
-invariant-loop-steps l = Climb l.labels l.v l.k l.u l.steps
-
-abbrev pub decreases-loop-steps : goal.decreases-loop-steps
-decreases-loop-steps l = l.k - l.steps
+abbrev pub invariant-loop : goal.invariant-loop
+invariant-loop l = l.u ≡ ancestor_of l.labels l.v l.counter

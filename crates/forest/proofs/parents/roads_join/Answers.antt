@@ -1,25 +1,17 @@
--- The loop has passed every road below k, and one that does not join fails all.
-use Rattle.std.proofs.lemmas.Bool.{not_from_false, not_from_true}
-use native.Mathlib.Omega.{arith}
-use Rattle.forest.proofs.ParentLoops.{passing_start, passing_more, passing_fails, passing_end}
+-- No foot is known at first, and a road that does not join fails all.
+use Rattle.std.proofs.Common.{sym, arith}
+use Rattle.refusals.proofs.Order.{every-fails, every_all}
+use Rattle.network.specs.NetworkFile.{roads_of}
+use Rattle.forest.specs.Forest.{road_joins}
 use Rattle.forest.proofs.OneChain.{feet_none}
-use borrow.Author.Rules.{rules}
 use Rattle.forest.proofs.parents.roads_join.Goals as goal
 
-pub fill_feet-requires : goal.fill_feet-requires
-fill_feet-requires c = search (feet_none, rules)
-
-pub loop-k-init : goal.loop-k-init
-loop-k-init c = passing_start
-
-pub road_joins-requires : goal.road_joins-requires
-road_joins-requires c = record { network_fits = c.requires.network_fits; net_value = c.requires.net_value; parents_fit = c.requires.parents_fit; depths_filled = c.requires.depths_filled; feet_right = c.fill_feet.ensures; k_bound = omega arith }
+pub fill_feet-requires-clause-feet_right : goal.fill_feet-requires-clause-feet_right
+fill_feet-requires-clause-feet_right c = feet_none c.args.labels.now c.requires.parents_fit.few_junctions
 
 pub returns-then-not-road_joins : goal.returns-then-not-road_joins
-returns-then-not-road_joins c = passing_fails c.loop-k.invariant (omega arith) c.road_joins.ensures (not_from_false _ c.if-not-road_joins.true)
-
-pub loop-k-preserved : goal.loop-k-preserved
-loop-k-preserved c = passing_more c.loop-k.invariant (omega arith) c.road_joins.ensures (not_from_true _ c.if-not-road_joins.false)
+returns-then-not-road_joins c =
+    sym (every-fails (road_joins c.args.net.now c.args.labels.now) (roads_of c.args.net.now) {i = c.loop-k.k} (omega arith) (sym c.if-not-road_joins.ensures))
 
 pub returns : goal.returns
-returns c = passing_end c.loop-k.invariant (omega arith)
+returns c = sym (every_all (road_joins c.args.net.now c.args.labels.now) (roads_of c.args.net.now) (λ j below. c.loop-k.invariant j (omega arith)))

@@ -4,6 +4,3 @@ use Rattle.forest.proofs.parents.write_depths.Given as goal
 
 abbrev pub invariant-loop-left : goal.invariant-loop-left
 invariant-loop-left l = Writing l.labels l.v l.initial.depths l.depths l.u l.left
-
-abbrev pub decreases-loop-left : goal.decreases-loop-left
-decreases-loop-left l = l.left

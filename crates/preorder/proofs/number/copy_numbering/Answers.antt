@@ -1,13 +1,15 @@
--- The first i of the three are copied, each to its own part of the table.
-use native.Mathlib.Omega.{arith}
-use Rattle.preorder.proofs.Placing.{copied_none, copied_more, copied_all}
+-- Each list is copied to a part of the table of its own.
+use Rattle.preorder.proofs.Placing.{copied_all}
 use Rattle.preorder.proofs.number.copy_numbering.Goals as goal
 
-pub loop-i-init : goal.loop-i-init
-loop-i-init c = (omega arith, copied_none c.requires.n_bound.1)
-
-pub loop-i-preserved : goal.loop-i-preserved
-loop-i-preserved c = (omega arith, copied_more c.loop-i.invariant.1 (omega arith))
-
 pub returns : goal.returns
-returns c = copied_all c.loop-i.invariant.1 (omega arith)
+returns c =
+    copied_all
+    c.requires.n_bound.0
+    c.requires.order_len.0
+    c.requires.order_len.1
+    c.requires.order_len.2
+    c.requires.n_bound.1
+    c.copy_from_slice.ensures.after
+    c.copy_from_slice-2.ensures.after
+    c.copy_from_slice-3.ensures.after

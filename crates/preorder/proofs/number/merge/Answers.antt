@@ -20,8 +20,7 @@ overflow_add-sizes c = omega (
       c.requires.parents_fit.1
       c.requires.merged
       c.parent_at-parent.ensures.is
-      c.if-parent-eq-NO_PARENT.false
-      c.wide-above.ensures,
+      c.if-parent-eq-NO_PARENT.false,
 )
 
 pub bounds-sizes-above-2 : goal.bounds-sizes-above-2

@@ -19,8 +19,7 @@ overflow_add-spots c = omega (
       c.requires.parents_fit.2
       c.requires.placed
       c.parent_at-parent.ensures.is
-      c.if-parent-eq-NO_PARENT.false
-      c.wide-above.ensures,
+      c.if-parent-eq-NO_PARENT.false,
 )
 
 pub returns : goal.returns
