@@ -1,135 +1,129 @@
-// The form of a label file: which number of 11 to 17 it is refused by, alone or beside a network.
-ghost use Rattle.std.specs.Prelude.{◌≡◌, ◌≤◌, length};
+// The form of a label file: what it is refused for, alone or beside a network.
+ghost use Rattle.std.specs.Prelude.{◌≡◌, ◌≤◌, length, IfSome};
 ghost use Rattle.tables.specs.working.Layout.{table_places};
 ghost use Rattle.network.specs.NetworkFile.{header_bytes, junctions_of};
 ghost use Rattle.network.specs.working.Fits.{NetworkFits};
 ghost use Rattle.stored.specs.ListForm.{most_bytes};
-ghost use Rattle.files.specs.LabelForm.{header_form, same_network, junctions_fit};
+ghost use Rattle.stored.specs.Refusal.{number_of};
+ghost use Rattle.files.specs.LabelForm.{header_form};
 ghost use Rattle.forest.specs.working.Fits.{ParentsFit, DepthsFilled};
-ghost use Rattle.files.specs.working.FormRead.{ParentsNumbered, ListsNumbered, LabelsNumberedAlone, LabelsNumbered};
+ghost use Rattle.files.specs.working.FormRead.{FitsTested, ParentsNumbered, RoadsTested, ListsNumbered, LabelsNumbered, LabelsTested};
 
 use file_bytes::marked;
 use forest::parents::{entries_of, fill_depths, lists_from, roads_join};
 use network::header::{HEADER_BYTES, identity_of, junctions_of, version_of};
 use network::versions::Served;
+use stored::refusal::LabelRefusal;
 use stored::stored::scan_lists;
 
 const MOST_BYTES: usize = 4194304;
 
-// 11 for too few or too many bytes, 12, 13, or 0.
-fn header_form(labels: &[u8], serves: Served) -> u32
-    ensures { result ≡ header_form serves labels.now }
+// Tests the header: too few or too many bytes, the mark, the version.
+#[tactic(auto, using(crate::proofs::FormTests::header_short, crate::proofs::FormTests::header_huge))]
+fn test_header(labels: &[u8], serves: Served) -> Result<(), LabelRefusal>
+    ensures { number_of result ≡ header_form serves labels.now }
 {
-    if labels.len() < HEADER_BYTES {
-        return 11;
-    }
-    if labels.len() > MOST_BYTES {
-        return 11;
+    if labels.len() < HEADER_BYTES || labels.len() > MOST_BYTES {
+        return Err(LabelRefusal::Bytes);
     }
     if !marked(b'T', b'L', b'B', labels) {
-        return 12;
+        return Err(LabelRefusal::Mark);
     }
     if !serves.includes(version_of(labels)) {
-        return 13;
+        return Err(LabelRefusal::Version);
     }
-    0
+    Ok(())
 }
 
-// What 14 asks where there is no network.
-fn junctions_fit(labels: &[u8]) -> bool
-    requires { header_bytes ≤ length labels.now }
-    ensures { result ≡ junctions_fit labels.now }
+// What 14 asks: beside a network its own junctions and identity, or else a count of junctions in range.
+fn network_fits(net: Option<&[u8]>, labels: &[u8]) -> bool
+    requires net_header { IfSome net (λ beside. header_bytes ≤ length beside.now) }
+    requires labels_header { header_bytes ≤ length labels.now }
+    ensures { FitsTested net.entry labels.now result }
 {
     let n = junctions_of(labels);
-    if n < 1 {
-        return false;
+    match net {
+        Some(net) => n == junctions_of(net) && identity_of(labels) == identity_of(net),
+        None => 1 <= n && n <= 1024,
     }
-    n <= 1024
 }
 
-// What 14 asks beside a network.
-fn same_network(net: &[u8], labels: &[u8]) -> bool
-    requires header_bytes_in_bounds { header_bytes ≤ length net.now }
-    requires header_bytes_in_bounds_2 { header_bytes ≤ length labels.now }
-    ensures { result ≡ same_network net.now labels.now }
-{
-    let n = junctions_of(labels);
-    let junctions = junctions_of(net);
-    if n != junctions {
-        return false;
-    }
-    let identity = identity_of(labels);
-    let asked = identity_of(net);
-    identity == asked
-}
-
-// 11 for parents that are cut off, 15, or 0; at 0 the depths are filled.
-fn parents_form(labels: &[u8], depths: &mut [u32; 1024]) -> u32
+// Tests the parents, which may be cut off; where they pass, the depths are filled.
+fn test_parents(labels: &[u8], depths: &mut [u32; 1024]) -> Result<(), LabelRefusal>
     requires header_bytes_in_bounds { header_bytes ≤ length labels.now }
     requires labels_bound { junctions_of labels.now ≤ 1024 }
     requires depths_len { length depths.old ≡ 1024 }
-    ensures { ParentsNumbered labels.now depths.new result }
+    ensures { ParentsNumbered labels.now depths.new (number_of result) }
 {
     if labels.len() < lists_from(labels) {
-        return 11;
+        return Err(LabelRefusal::Bytes);
     }
     if !fill_depths(labels, depths) {
-        return 15;
+        return Err(LabelRefusal::Parents);
     }
-    0
+    Ok(())
 }
 
-// The number of the lists, then 11 for bytes left, 17 for a wrong count of all entries, or 0; at 0 the starts are filled.
-fn lists_form(labels: &[u8], depths: &[u32; 1024], tables: &mut [u32; 13312]) -> u32
+// What 16 asks: each road of a network joins an ancestor and a descendant.
+fn roads_fit(net: Option<&[u8]>, labels: &[u8], depths: &[u32; 1024]) -> bool
+    requires network_fits { IfSome net (λ beside. NetworkFits beside.now × (junctions_of beside.now ≡ junctions_of labels.now)) }
+    requires parents_fit { ParentsFit labels.now }
+    requires depths_filled { DepthsFilled labels.now depths.now }
+    ensures { RoadsTested net.entry labels.now result }
+{
+    match net {
+        Some(net) => roads_join(net, labels, depths),
+        None => true,
+    }
+}
+
+// Tests the lists, then the bytes left behind them, then the count of all entries; where they pass, the starts are filled.
+fn test_lists(
+    labels: &[u8],
+    depths: &[u32; 1024],
+    tables: &mut [u32; 13312],
+) -> Result<(), LabelRefusal>
     requires parents_fit { ParentsFit labels.now }
     requires depths_filled { DepthsFilled labels.now depths.now }
     requires labels_len_bound { length labels.now ≤ most_bytes }
     requires tables_len { length tables.old ≡ table_places }
-    ensures { ListsNumbered labels.now tables.new result }
+    ensures { ListsNumbered labels.now tables.new (number_of result) }
 {
-    let scan = scan_lists(labels, depths, tables);
-    let number = scan.number;
-    if number != 0 {
-        return number;
+    let scanned = scan_lists(labels, depths, tables)?;
+    if scanned.at != labels.len() {
+        return Err(LabelRefusal::Bytes);
     }
-    let behind = scan.at;
-    if behind != labels.len() {
-        return 11;
+    if scanned.total != entries_of(labels) as usize {
+        return Err(LabelRefusal::Lists);
     }
-    let total = scan.total;
-    let entries = entries_of(labels) as usize;
-    if total != entries {
-        return 17;
-    }
-    0
+    Ok(())
 }
 
-// 11 to 15 or 17 for labels alone, or 0; at 0 both tables are filled.
-pub fn labels_number_alone(
+// Tests labels beside a network that passed, or alone; where they pass, both tables are filled.
+pub fn test_labels(
+    net: Option<&[u8]>,
     labels: &[u8],
     serves: Served,
     depths: &mut [u32; 1024],
     tables: &mut [u32; 13312],
-) -> u32
+) -> Result<(), LabelRefusal>
+    requires network_fits { IfSome net (λ beside. NetworkFits beside.now) }
     requires depths_len { length depths.old ≡ 1024 }
     requires tables_len { length tables.old ≡ table_places }
-    ensures { LabelsNumberedAlone serves labels.now depths.new tables.new result }
+    ensures { LabelsTested serves net.entry labels.now depths.new tables.new (number_of result) }
 {
-    let header = header_form(labels, serves);
-    if header != 0 {
-        return header;
+    test_header(labels, serves)?;
+    if !network_fits(net, labels) {
+        return Err(LabelRefusal::Network);
     }
-    if !junctions_fit(labels) {
-        return 14;
+    test_parents(labels, depths)?;
+    if !roads_fit(net, labels, depths) {
+        return Err(LabelRefusal::Road);
     }
-    let parents = parents_form(labels, depths);
-    if parents != 0 {
-        return parents;
-    }
-    lists_form(labels, depths, tables)
+    test_lists(labels, depths, tables)
 }
 
-// 11 to 17 for labels beside a network that passed, or 0; at 0 both tables are filled.
+// The number of labels beside a network that passed, 0 where they pass too: what bench/ asks for, and it cannot fail.
 pub fn labels_number(
     net: &[u8],
     labels: &[u8],
@@ -142,19 +136,8 @@ pub fn labels_number(
     requires tables_len { length tables.old ≡ table_places }
     ensures { LabelsNumbered serves net.now labels.now depths.new tables.new result }
 {
-    let header = header_form(labels, serves);
-    if header != 0 {
-        return header;
+    match test_labels(Some(net), labels, serves, depths, tables) {
+        Ok(()) => 0,
+        Err(refusal) => refusal.number(),
     }
-    if !same_network(net, labels) {
-        return 14;
-    }
-    let parents = parents_form(labels, depths);
-    if parents != 0 {
-        return parents;
-    }
-    if !roads_join(net, labels, depths) {
-        return 16;
-    }
-    lists_form(labels, depths, tables)
 }

@@ -81,13 +81,12 @@ energy-tested labels at j from is_floor is-energy tested =
     tested ∙ rw (is-energy, is_floor) (sym (energy_by_floor labels at j (omega (arith, from, is_floor))))
 
 -- an energy that passed is no less than the floor
-pub floor_below : (e floor : ℕ) {x : Bool} → x ≡ energy_from floor e → not x ≡ false → floor ≤ e
-floor_below e floor {x} tested passed = leb-true floor e (and_both (leb e most_figure) (leb floor e) (sym tested ∙ not-false x passed)).1
+pub floor_below : (e floor : ℕ) → true ≡ energy_from floor e → floor ≤ e
+floor_below e floor passed = leb-true floor e (and_both (leb e most_figure) (leb floor e) (sym passed)).1
 
 -- an energy that passed leaves room for the next floor
-pub floor_fits : (e floor : ℕ) {x : Bool} → x ≡ energy_from floor e → not x ≡ false → e + 1 < 2 ^ 32
-floor_fits e floor {x} tested passed =
-    omega (arith, leb-true e most_figure (and_both (leb e most_figure) (leb floor e) (sym tested ∙ not-false x passed)).0)
+pub floor_fits : (e floor : ℕ) → true ≡ energy_from floor e → e + 1 < 2 ^ 32
+floor_fits e floor passed = omega (arith, leb-true e most_figure (and_both (leb e most_figure) (leb floor e) (sym passed)).0)
 
 -- ---- The entries that stand whole
 
@@ -111,57 +110,44 @@ module _ (labels : List ℕ) (at : ℕ) where
     pub is_floor : floor ≡ energy_floor labels at j
     pub from-least : least_entry_energy (version_of labels) ≤ floor
 
-  -- before the first entry
-  pub tested-none : (whole : ℕ) {least : ℕ} → least ≡ least_entry_energy (version_of labels) → Tested whole 0 (suc most_figure) least
-  tested-none whole is-least =
-      record {
-        few = omega arith;
-        left = ap (first_fault (entry_number labels at) 0) (omega arith);
-        is_ceiling = refl;
-        is_floor = is-least;
-        from-least = omega (arith, is-least);
-      }
-
   -- a 17 at entry j is the list's number
   fault_seventeen :
       {whole j ceiling floor : ℕ} → Tested whole j ceiling floor → j < whole → entry_number labels at j ≡ 17 →
       17 ≡ first_fault (entry_number labels at) 0 whole
   fault_seventeen tested h e = sym (tested.left ∙ fault-here (entry_number labels at) h (λ z. let y = sym e ∙ z in omega arith) ∙ e)
 
-  module _ {whole j ceiling floor t : ℕ} {x : Bool} (tested : Tested whole j ceiling floor) (h : j < whole)
-      (inside : at + 2 + 8 * whole ≤ length labels) (is-time : t ≡ time_at labels at j) (time-test : x ≡ time_below ceiling t) where
-    time_rule : x ≡ time_fits labels at j
-    time_rule = time-tested labels at j tested.is_ceiling is-time time-test
-
+  module _ {whole j ceiling floor t : ℕ} (tested : Tested whole j ceiling floor) (h : j < whole)
+      (inside : at + 2 + 8 * whole ≤ length labels) (is-time : t ≡ time_at labels at j) where
     -- a time against the rules refuses the list
-    pub tested_bad_time : not x ≡ true → 17 ≡ first_fault (entry_number labels at) 0 whole
-    tested_bad_time failed = fault_seventeen tested h (entry_bad_time j (omega arith) (sym time_rule ∙ not-true x failed))
+    pub tested_bad_time : false ≡ time_below ceiling t → 17 ≡ first_fault (entry_number labels at) 0 whole
+    tested_bad_time failed =
+        fault_seventeen tested h (entry_bad_time j (omega arith) (sym (time-tested labels at j tested.is_ceiling is-time failed)))
 
-    module _ {e : ℕ} {y : Bool} (time-passed : not x ≡ false) (is-energy : e ≡ energy_at labels at j) (energy-test : y ≡ energy_from floor e) where
+    module _ {e : ℕ} (time-passed : true ≡ time_below ceiling t) (is-energy : e ≡ energy_at labels at j) where
       good_time : time_fits labels at j ≡ true
-      good_time = sym time_rule ∙ not-false x time-passed
+      good_time = sym (time-tested labels at j tested.is_ceiling is-time time-passed)
 
-      energy_rule : y ≡ energy_fits labels at j
-      energy_rule = energy-tested labels at j tested.from-least tested.is_floor is-energy energy-test
+      energy_rule : {y : Bool} → y ≡ energy_from floor e → energy_fits labels at j ≡ y
+      energy_rule energy-test = sym (energy-tested labels at j tested.from-least tested.is_floor is-energy energy-test)
 
       -- and so does an energy
-      pub tested_bad_energy : not y ≡ true → 17 ≡ first_fault (entry_number labels at) 0 whole
-      tested_bad_energy failed = fault_seventeen tested h (entry_bad_energy j (omega arith) good_time (sym energy_rule ∙ not-true y failed))
+      pub tested_bad_energy : false ≡ energy_from floor e → 17 ≡ first_fault (entry_number labels at) 0 whole
+      tested_bad_energy failed = fault_seventeen tested h (entry_bad_energy j (omega arith) good_time (energy_rule failed))
 
       -- an entry that keeps both rules is passed
-      pub tested-more : {next : ℕ} → not y ≡ false → next ≡ e + 1 → Tested whole (j + 1) t next
-      tested-more {next} passed is-next =
+      pub tested_more : {next : ℕ} → true ≡ energy_from floor e → next ≡ e + 1 → Tested whole (j + 1) t next
+      tested_more {next} passed is-next =
           rw (add-one j)
           (record {
             few = omega arith;
             left = tested.left ∙ fault-next (entry_number labels at) h (fits-entry fits) ∙ ap (faults_from (entry_number labels at) whole) (add-one j);
             is_ceiling = is-time;
             is_floor = is-next ∙ add-one e ∙ ap suc is-energy;
-            from-least = omega (arith, is-next, tested.from-least, floor_below e floor energy-test passed);
+            from-least = omega (arith, is-next, tested.from-least, floor_below e floor passed);
           })
         where
           fits : EntryFits labels at j
-          fits = record { inside = omega arith; fitting_time = good_time; fitting_energy = sym energy_rule ∙ not-false y passed }
+          fits = record { inside = omega arith; fitting_time = good_time; fitting_energy = energy_rule passed }
 
   -- all passed: no fault
   pub tested_all : {whole j ceiling floor : ℕ} → Tested whole j ceiling floor → whole ≤ j → 0 ≡ first_fault (entry_number labels at) 0 whole
@@ -212,29 +198,25 @@ module _ (labels : List ℕ) (at : ℕ) where
   unfolding list_number
   list-long inside is long = rw (le-leb (at + 2) (length labels) inside, lt-leb (count_at labels at) most_count (omega (arith, is)))
 
-  module _ {count whole number : ℕ} (inside : at + 2 ≤ length labels) (is : count ≡ count_at labels at) (short : count ≤ most_count) (some : Inside labels at count whole) where
+  module _ {count whole : ℕ} (inside : at + 2 ≤ length labels) (is : count ≡ count_at labels at) (short : count ≤ most_count) (some : Inside labels at count whole) where
     -- a fault among the entries that stand whole
-    pub list_faulty : number ≡ first_fault (entry_number labels at) 0 whole → (number ≡ 0 → ⊥) → number ≡ list_number labels at
+    pub list_faulty : {number : ℕ} → number ≡ first_fault (entry_number labels at) 0 whole → (number ≡ 0 → ⊥) → number ≡ list_number labels at
     list_faulty e apart =
-        list_by_entries inside (omega (arith, is)) (fault-among (entry_number labels at) some.few e apart ∙ ap (first_fault (entry_number labels at) 0) is)
+        list_by_entries inside (omega (arith, is))
+        (fault-among (entry_number labels at) some.few e apart ∙ ap (first_fault (entry_number labels at) 0) is)
 
     -- none, and all stand whole
-    pub list-passes : number ≡ first_fault (entry_number labels at) 0 whole → number ≡ 0 → whole ≡ count → 0 ≡ list_number labels at
-    list-passes e zero_is all =
-        list_by_entries inside (omega (arith, is)) (sym zero_is ∙ e ∙ ap (first_fault (entry_number labels at) 0) (all ∙ is))
+    pub list_passes : 0 ≡ first_fault (entry_number labels at) 0 whole → count ≤ whole → 0 ≡ list_number labels at
+    list_passes e all = list_by_entries inside (omega (arith, is)) (e ∙ ap (first_fault (entry_number labels at) 0) (omega (arith, some.few, is)))
 
     -- none, and the next is cut off
     pub list_cut_entry :
-        {last : ℕ} → number ≡ first_fault (entry_number labels at) 0 whole → number ≡ 0 → (whole ≡ count → ⊥) →
-        last ≡ entry_number labels at whole → last ≡ list_number labels at
-    list_cut_entry {last} e zero_is apart is_last =
+        {last : ℕ} → 0 ≡ first_fault (entry_number labels at) 0 whole → whole < count → last ≡ entry_number labels at whole → last ≡ list_number labels at
+    list_cut_entry e behind is_last =
         list_by_entries inside (omega (arith, is))
         (is_last ∙ sym (fault-here (entry_number labels at) behind fault) ∙
-        sym (fault-behind (entry_number labels at) some.few (sym e ∙ zero_is)) ∙
+        sym (fault-behind (entry_number labels at) some.few (sym e)) ∙
         ap (first_fault (entry_number labels at) 0) is)
       where
-        behind : whole < count
-        behind = omega (arith, some.few)
-
         fault : entry_number labels at whole ≡ 0 → ⊥
         fault z = omega (arith, (entry-fits labels at whole z).inside, some.cut behind)

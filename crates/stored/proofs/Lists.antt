@@ -1,37 +1,23 @@
--- One stored list and its number of 11 to 17. In this order: three tests in a row; the rules of one entry; a list whose number is 0 fits;
+-- One stored list and its number of 11 to 17. In this order: the rules of one entry; a list whose number is 0 fits;
 -- all lists; what the entries of a list that fits are.
-use mathlib.Core.Path.{◌≡◌, sym, ◌∙◌}
-use mathlib.Core.Bool.{Bool, true, false, not, ◌&&◌}
+use mathlib.Core.Path.{◌≡◌}
+use mathlib.Core.Bool.{true, ◌&&◌}
 use mathlib.Core.List.{List}
 use Prim.Native.Nat.{ℕ, zero, suc, ◌+◌, ◌*◌, ◌≤◌, ◌<◌}
 use native.Mathlib.Omega.{arith}
 use lib.Dec.{leb}
 use lib.ListN.{length}
-use borrow.Author.Tests.{leb-true, ltb-true, le-leb, not-true, not-false}
+use borrow.Author.Tests.{leb-true, ltb-true, le-leb}
 use Rattle.paths.specs.Weights.{pair}
 use Rattle.paths.specs.TradeOff.{Ordered, none, one, more}
 use Rattle.refusals.specs.Order.{unless, first_fault}
-use Rattle.refusals.proofs.Order.{unless-passed, and_both, and_true, and_false_left, and_false_right, no_fault}
+use Rattle.refusals.proofs.Order.{unless-passed, and_both, and_true, no_fault}
 use Rattle.forest.specs.LabelVersions.{least_entry_energy}
 use Rattle.network.specs.NetworkFile.{version_of}
 use Rattle.forest.specs.LabelFile.{count_at, time_at, energy_at, list_end}
 use Rattle.stored.specs.Stored.{lists_of, place_of, tabulate, list_at}
 use Rattle.stored.specs.ListForm.{most_count, most_figure, time_follows, energy_follows, time_fits, energy_fits, entry_number, list_number, lists_number}
 use Rattle.stored.specs.working.Formed.{ListFits}
-
--- ---- Three tests in a row, of which the code makes each that is still asked
-
--- the first fails, and no other is made
-pub first-fails : {x a : Bool} (b c : Bool) → x ≡ a → not x ≡ true → false ≡ (a && b && c)
-first-fails {x} b c e h = sym (and_false_left c (and_false_left b (sym e ∙ not-true x h)))
-
--- the second fails
-pub second-fails : {y b : Bool} (a c : Bool) → y ≡ b → not y ≡ true → false ≡ (a && b && c)
-second-fails {y} a c e h = sym (and_false_left c (and_false_right a (sym e ∙ not-true y h)))
-
--- both hold, and the third is the answer
-pub third-decides : {x y z a b c : Bool} → x ≡ a → not x ≡ false → y ≡ b → not y ≡ false → z ≡ c → z ≡ (a && b && c)
-third-decides {x} {y} e h f k g = rw (sym e ∙ not-false x h, sym f ∙ not-false y k) g
 
 -- ---- The rules of one entry
 

@@ -1,5 +1,6 @@
 -- Passing over lists: the laws of the two loops. In this order: the lists of one junction; the lists of all.
-use mathlib.Core.Path.{◌≡◌, refl, sym, ap, ◌∙◌}
+use Rattle.std.specs.Prelude.{Result, Ok, Err}
+use mathlib.Core.Path.{◌≡◌, refl, sym, ap, subst, ◌∙◌}
 use mathlib.Core.List.{List}
 use Prim.Native.Nat.{ℕ, ◌+◌, ◌-◌, ◌≤◌, ◌<◌}
 use native.Mathlib.Omega.{arith}
@@ -15,10 +16,14 @@ use Rattle.forest.specs.LabelFile.{lists_from, count_at, list_end}
 use Rattle.forest.specs.Forest.{depth_of}
 use Rattle.stored.specs.Stored.{lists_before, lists_of, place_of, entries_before}
 use Rattle.stored.specs.working.Formed.{start_of}
+use Rattle.stored.specs.declared.refusal.LabelRefusal.{LabelRefusal}
+use Rattle.stored.specs.declared.stored.Scanned.{Scanned}
+use Rattle.stored.specs.Refusal.{refusal_number}
 use Rattle.stored.specs.ListForm.{list_number, lists_number}
 use Rattle.forest.specs.working.Fits.{ParentsFit, DepthsFilled}
-use Rattle.stored.specs.working.Scanned.{further, ScannedSome, PassedSome, Scanned}
+use Rattle.stored.specs.working.Scanned.{further, ScannedSome, PassedSome, ScannedAll}
 use Rattle.stored.proofs.Faults.{faults_joined, faults_moved, fault-behind}
+use Rattle.stored.proofs.Refusals.{refuses}
 use Rattle.stored.proofs.Lists.{list-fits}
 use Rattle.stored.proofs.Places.{list-takes, further-none, further-next, further_add, further-later, further-place, lists_before-next, lists_of_junction, place_counts}
 
@@ -29,8 +34,8 @@ abbrev number_further : List ℕ → ℕ → ℕ → ℕ
 number_further labels at i = list_number labels (further labels at i)
 
 -- a list without fault stands whole in the file
-pub list-stands : (labels : List ℕ) (here : ℕ) {number : ℕ} → number ≡ list_number labels here → number ≡ 0 → here + 2 ≤ length labels
-list-stands labels here e zero_is = omega (arith, list-takes labels here, (list-fits labels here (sym e ∙ zero_is)).inside)
+pub list-stands : (labels : List ℕ) (here : ℕ) → 0 ≡ list_number labels here → here + 2 ≤ length labels
+list-stands labels here e = omega (arith, list-takes labels here, (list-fits labels here (sym e)).inside)
 
 module _ (labels : List ℕ) (at lists total : ℕ) where
   -- before the first list
@@ -51,73 +56,63 @@ module _ (labels : List ℕ) (at lists total : ℕ) where
     behind-decide = fault-behind (number_further labels at) run.few run.none
 
     -- a list with a fault refuses
-    pub passed-fault :
-        {number : ℕ} → k < lists → number ≡ list_number labels here → (number ≡ 0 → ⊥) → ScannedSome labels at lists total number 0 0
-    passed-fault {number} h e apart =
-        record { is = decides; place = λ z. absurd (apart z); inside = λ z. absurd (apart z); counted = λ z. absurd (apart z) }
+    pub passed-fault : {number : ℕ} → k < lists → number ≡ list_number labels here → (number ≡ 0 → ⊥) → number ≡ first_fault (number_further labels at) 0 lists
+    passed-fault {number} h e apart = number_is ∙ sym (behind-decide ∙ fault-here (number_further labels at) h (λ z. apart (number_is ∙ z)))
       where
         number_is : number ≡ list_number labels (further labels at k)
         number_is = e ∙ ap (list_number labels) run.place
 
-        decides : number ≡ first_fault (number_further labels at) 0 lists
-        decides = number_is ∙ sym (behind-decide ∙ fault-here (number_further labels at) h (λ z. apart (number_is ∙ z)))
-
     -- a list without fault is passed
     pub passed-more :
-        {number count next : ℕ} → k < lists → number ≡ list_number labels here → number ≡ 0 → count ≡ count_at labels here → next ≡ list_end labels here →
+        {count next : ℕ} → k < lists → 0 ≡ list_number labels here → count ≡ count_at labels here → next ≡ list_end labels here →
         PassedSome labels at lists total (k + 1) next (sum + count)
     unfolding list_end
-    passed-more h e zero_is is-count is-next =
+    passed-more h e is-count is-next =
         record {
           few = omega arith;
           none = all_behind ∙ fault-next (number_further labels at) {n = k + 1} (omega arith) fits ∙ fault_end (number_further labels at) {n = k + 1} (omega arith);
           place = is-next ∙ ap (list_end labels) run.place ∙ sym (further-next labels at k);
-          inside = omega (arith, (list-fits labels here (sym e ∙ zero_is)).inside);
+          inside = omega (arith, (list-fits labels here (sym e)).inside);
           counted = omega (arith, run.counted);
         }
       where
         fits : number_further labels at k ≡ 0
-        fits = ap (list_number labels) (sym run.place) ∙ sym e ∙ zero_is
+        fits = ap (list_number labels) (sym run.place) ∙ sym e
 
         all_behind : first_fault (number_further labels at) 0 (k + 1) ≡ faults_from (number_further labels at) (k + 1) k
         all_behind = fault-behind (number_further labels at) (omega arith) run.none
 
     -- all are passed
-    pub passed_all : lists ≤ k → ScannedSome labels at lists total 0 here sum
-    passed_all h =
-        record {
-          is = sym (behind-decide ∙ fault_end (number_further labels at) h);
-          place = λ z. run.place ∙ ap (further labels at) (omega (arith, run.few));
-          inside = λ z. run.inside;
-          counted = λ z. omega (arith, run.counted, run.few);
-        }
+    pub passed_all : lists ≤ k → PassedSome labels at lists total lists here sum
+    passed_all h = let e : k ≡ lists = omega (arith, run.few) in subst (λ n. PassedSome labels at lists total n here sum) e run
 
     -- the entries counted are no more than the bytes, if they were so before
     pub passed_counts : total ≤ at → sum ≤ here
     passed_counts h = omega (arith, run.counted, run.place, further-later labels at k)
 
     -- those that are left decide
-    pub passed-left :
-        {left number behind total-behind : ℕ} → left ≡ lists - k → ScannedSome labels here left sum number behind total-behind →
-        ScannedSome labels at lists total number behind total-behind
-    passed-left {left} is-left scanned =
-        record {
-          is = scanned.is ∙ moved ∙ sym behind-decide;
-          place = λ z. scanned.place z ∙ last-place;
-          inside = scanned.inside;
-          counted = λ z. omega (arith, run.counted, scanned.counted z, run.few);
-        }
-      where
-        same : (i : ℕ) → further labels here i ≡ further labels at (k + i)
-        same i = ap (λ p. further labels p i) run.place ∙ further_add labels at k i
+    module _ {left : ℕ} (is-left : left ≡ lists - k) where
+      same : (i : ℕ) → further labels here i ≡ further labels at (k + i)
+      same i = ap (λ p. further labels p i) run.place ∙ further_add labels at k i
 
-        moved : first_fault (number_further labels here) 0 left ≡ faults_from (number_further labels at) lists k
-        moved =
-            faults_moved (number_further labels here) (number_further labels at) k (λ i. ap (list_number labels) (same i)) left 0 ∙
-            rw (add-zero k, is-left)
+      left-decide : first_fault (number_further labels here) 0 left ≡ first_fault (number_further labels at) 0 lists
+      left-decide =
+          faults_moved (number_further labels here) (number_further labels at) k (λ i. ap (list_number labels) (same i)) left 0 ∙
+          rw (add-zero k, is-left) (sym behind-decide)
 
-        last-place : further labels here left ≡ further labels at lists
-        last-place = same left ∙ ap (further labels at) (omega (arith, run.few))
+      behind-left : further labels here left ≡ further labels at lists
+      behind-left = same left ∙ ap (further labels at) (omega (arith, run.few))
+
+      pub passed-left : (r : Result Scanned LabelRefusal) → ScannedSome labels here left sum r → ScannedSome labels at lists total r
+      passed-left (Ok scanned) more =
+          record {
+            few = omega arith;
+            none = sym left-decide ∙ more.none;
+            place = more.place ∙ behind-left;
+            inside = more.inside;
+            counted = omega (arith, run.counted, more.counted, run.few);
+          }
+      passed-left (Err refusal) is = is ∙ left-decide
 
 -- ---- The lists of all junctions
 
@@ -152,9 +147,8 @@ module _ (labels : List ℕ) where
         noted = λ w h. absurd (omega arith);
       }
 
-  module _ {v at total number behind sum depth : ℕ} {tables depths : List ℕ} (passed : AllPassed v at total tables)
-      (on_map : v < junctions_of labels) (filled : DepthsFilled labels depths) (deep : depth ≡ get_or depths v 0)
-      (scanned : ScannedSome labels at depth total number behind sum) where
+  module _ {v at total depth : ℕ} {tables depths : List ℕ} (passed : AllPassed v at total tables)
+      (on_map : v < junctions_of labels) (filled : DepthsFilled labels depths) (deep : depth ≡ get_or depths v 0) where
     is_depth : depth ≡ depth_of labels v
     is_depth = deep ∙ filled.depth v on_map
 
@@ -169,8 +163,10 @@ module _ (labels : List ℕ) where
     last-place = next_place depth ∙ ap (place_of labels) behind_them
 
     -- v's lists decide, or those behind them
-    split : lists_number labels ≡ decided number (faults_from (number_at labels) (lists_of labels) (lists_before labels (v + 1)))
-    split =
+    split :
+        {number : ℕ} → number ≡ first_fault (number_further labels at) 0 depth →
+        lists_number labels ≡ decided number (faults_from (number_at labels) (lists_of labels) (lists_before labels (v + 1)))
+    split {number} is =
         passed.left ∙ ap (first_fault (number_at labels) (lists_before labels v)) count ∙
         faults_joined (number_at labels) depth (lists_before labels v) (lists_of labels - lists_before labels (v + 1)) ∙
         rw (here, behind_them)
@@ -181,42 +177,44 @@ module _ (labels : List ℕ) where
         here : first_fault (number_at labels) (lists_before labels v) depth ≡ number
         here =
             sym
-            (scanned.is ∙ faults_moved (number_further labels at) (number_at labels) (lists_before labels v) (λ i. ap (list_number labels) (next_place i)) depth 0 ∙
+            (is ∙ faults_moved (number_further labels at) (number_at labels) (lists_before labels v) (λ i. ap (list_number labels) (next_place i)) depth 0 ∙
             ap (λ g. first_fault (number_at labels) g depth) (add-zero (lists_before labels v)))
 
     -- a fault among v's lists refuses
-    pub all_fault : (number ≡ 0 → ⊥) → Scanned labels (set tables (starts_from + v) at) number behind sum
-    all_fault apart =
+    pub all_fault :
+        {refusal : LabelRefusal} → refusal_number refusal ≡ first_fault (number_further labels at) 0 depth →
+        ScannedAll labels (set tables (starts_from + v) at) (Err refusal)
+    all_fault {refusal} is =
         record {
-          is = sym (split ∙ decided-more _ apart);
+          is = sym (split is ∙ decided-more _ (refuses refusal));
           places = length-set tables (starts_from + v) at ∙ passed.places;
-          behind = λ z. absurd (apart z);
-          sum = λ z. absurd (apart z);
-          starts_filled = λ z. absurd (apart z);
+          passed = tt;
         }
 
     -- v's lists are passed
-    pub all_more : junctions_of labels ≤ 1024 → number ≡ 0 → AllPassed (v + 1) behind sum (set tables (starts_from + v) at)
-    all_more few zero_is =
+    pub all_more :
+        {behind sum : ℕ} → junctions_of labels ≤ 1024 → PassedSome labels at depth total depth behind sum →
+        AllPassed (v + 1) behind sum (set tables (starts_from + v) at)
+    all_more {behind} {sum} few scanned =
         record {
           few = omega arith;
-          place = scanned.place zero_is ∙ last-place;
-          inside = scanned.inside zero_is;
+          place = place_is;
+          inside = scanned.inside;
           counted = counted;
           small = omega (arith, counted, place_is, place_counts labels (lists_before labels (v + 1)));
-          left = split ∙ rw zero_is;
+          left = split (sym scanned.none);
           places = length-set tables (starts_from + v) at ∙ passed.places;
           noted = λ w h. pick w h (ℕ_discrete w v);
         }
       where
         place_is : behind ≡ place_of labels (lists_before labels (v + 1))
-        place_is = scanned.place zero_is ∙ last-place
+        place_is = scanned.place ∙ last-place
 
         counted : sum ≡ entries_before labels (lists_before labels (v + 1))
         counted =
             omega (
               arith,
-              scanned.counted zero_is,
+              scanned.counted,
               passed.place,
               passed.counted,
               place_is,
@@ -233,14 +231,17 @@ module _ (labels : List ℕ) where
         pick w h (no apart) = get_or-set_other tables (starts_from + v) (starts_from + w) at 0 (λ same. apart (omega arith)) ∙ passed.noted w (omega arith)
 
   -- all are passed
-  pub all_end : {v at total : ℕ} {tables : List ℕ} → AllPassed v at total tables → junctions_of labels ≤ v → Scanned labels tables 0 at total
+  pub all_end : {v : ℕ} {scanned : Scanned} {tables : List ℕ} → AllPassed v scanned.at scanned.total tables → junctions_of labels ≤ v → ScannedAll labels tables (Ok scanned)
   all_end {v} passed h =
       record {
         is = sym (passed.left ∙ fault_end (number_at labels) (omega (arith, ap (lists_before labels) all)));
         places = passed.places;
-        behind = λ z. passed.place ∙ ap (start_of labels) all;
-        sum = λ z. passed.counted ∙ ap (λ w. entries_before labels (lists_before labels w)) all;
-        starts_filled = λ z. record { places = passed.places; start = λ w below. passed.noted w (omega arith) };
+        passed =
+            record {
+              behind = passed.place ∙ ap (start_of labels) all;
+              sum = passed.counted ∙ ap (λ w. entries_before labels (lists_before labels w)) all;
+              starts_filled = record { places = passed.places; start = λ w below. passed.noted w (omega arith) };
+            };
       }
     where
       all : v ≡ junctions_of labels

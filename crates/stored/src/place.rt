@@ -24,8 +24,7 @@ impl Place {
         requires { count_end self.at ≤ length labels.now }
         ensures { ReadU16 labels.now self.at result }
     {
-        let at = self.at;
-        count_at(labels, at)
+        count_at(labels, self.at)
     }
 
     // The place of the next list.
@@ -34,10 +33,8 @@ impl Place {
         requires labels_len_bound { length labels.now ≤ most_bytes }
         ensures { result.at ≡ list_end labels.now self.at }
     {
-        let at = self.at;
-        let count = count_at(labels, at) as usize;
         Place {
-            at: entries_end(at, count),
+            at: entries_end(self.at, self.count(labels) as usize),
         }
     }
 }
@@ -49,18 +46,10 @@ pub fn skip(labels: &[u8], from: Place, k: usize) -> Place
     ensures { result.at ≡ further labels.now from.at k }
 {
     let mut place = from;
-    let mut i: usize = 0;
-    while i < k {
+    for _ in 0..k {
         place = place.next(labels);
-        i += 1;
     }
     place
-}
-
-fn wide(x: u32) -> usize
-    ensures { result ≡ x }
-{
-    x as usize
 }
 
 // The number that a table of all junctions has for v.
@@ -68,7 +57,7 @@ pub fn number_of(table: &[u32; 1024], v: usize) -> usize
     requires { v < 1024 }
     ensures { result ≡ get_or table.now v 0 }
 {
-    wide(table[v])
+    table[v] as usize
 }
 
 // The list of v and its proper ancestor u: as many lists behind v's first as there are ancestors between.

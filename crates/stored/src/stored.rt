@@ -1,4 +1,4 @@
-// Stored lists: which number one is refused by, one pass over all of them, and loading one into lent slices.
+// Stored lists: testing one, one pass over all of them, and loading one into lent slices.
 ghost use Rattle.std.specs.Prelude.{◌≡◌, ◌≤◌, ◌<◌, length};
 ghost use Rattle.tables.specs.working.Layout.{table_places};
 ghost use Rattle.refusals.specs.Order.{first_fault};
@@ -6,11 +6,13 @@ ghost use Rattle.file_bytes.specs.working.Reads.{Read16};
 ghost use Rattle.forest.specs.LabelVersions.{least_entry_energy};
 ghost use Rattle.network.specs.NetworkFile.{version_of};
 ghost use Rattle.forest.specs.LabelFile.{count_at, time_at, energy_at, count_end, entries_end, time_end, energy_end, list_end};
+ghost use Rattle.stored.specs.Refusal.{refusal_number, number_of};
 ghost use Rattle.stored.specs.ListForm.{most_bytes, most_count, entry_number, list_number};
 ghost use Rattle.forest.specs.working.Fits.{ParentsFit, DepthsFilled};
-ghost use Rattle.stored.specs.working.Scanned.{BehindEntries, time_ceiling, time_below, energy_from, Inside, ScannedSome, Scanned, Loaded};
+ghost use Rattle.stored.specs.working.Scanned.{BehindEntries, time_ceiling, time_below, energy_from, Inside, ScannedSome, ScannedAll, Loaded};
 
 use crate::place::Place;
+use crate::refusal::LabelRefusal;
 use crate::runs::{pass_short, pass_single};
 use file_bytes::{u16_at, u32_at};
 use forest::parents::lists_from;
@@ -68,23 +70,14 @@ pub fn energy_at(labels: &[u8], at: usize, j: usize) -> Energy
 pub fn time_fits(ceiling: Seconds, time: Seconds) -> bool
     ensures { result ≡ time_below ceiling.0 time.0 }
 {
-    if !Seconds(LEAST_TIME).at_most(time) {
-        return false;
-    }
-    if !time.at_most(Seconds(MOST_FIGURE)) {
-        return false;
-    }
-    time.below(ceiling)
+    Seconds(LEAST_TIME) <= time && time <= Seconds(MOST_FIGURE) && time < ceiling
 }
 
 // An energy in range, and above what stands before it.
 pub fn energy_fits(floor: Energy, energy: Energy) -> bool
     ensures { result ≡ energy_from floor.0 energy.0 }
 {
-    if !energy.at_most(Energy(MOST_FIGURE)) {
-        return false;
-    }
-    floor.at_most(energy)
+    energy <= Energy(MOST_FIGURE) && floor <= energy
 }
 
 // What entry j's time stays below.
@@ -98,45 +91,41 @@ fn time_ceiling(labels: &[u8], at: usize, j: usize) -> Seconds
     time_at(labels, at, j - 1)
 }
 
-// The number of an entry that the file's end cuts off: 17 if its time stands whole and breaks a rule, else 11.
-fn cut_entry_number(labels: &[u8], at: usize, j: usize) -> u32
+// What an entry that the file's end cuts off is refused for: its time, if that stands whole and breaks a rule, or else the cut.
+#[tactic(auto, using(crate::proofs::Entries::cut_time, crate::proofs::Entries::cut_bad_time, crate::proofs::Entries::cut_energy))]
+fn cut_entry_refusal(labels: &[u8], at: usize, j: usize) -> LabelRefusal
     requires at_in_bounds { (at ≤ length labels.now) × (length labels.now ≤ most_bytes) }
     requires j_le_most_count { j ≤ most_count }
     requires labels_len_bound { length labels.now < energy_end labels.now at j }
-    ensures { result ≡ entry_number labels.now at j }
+    ensures { refusal_number result ≡ entry_number labels.now at j }
 {
     if labels.len() < at + TIME_END + STRIDE * j {
-        return 11;
+        return LabelRefusal::Bytes;
     }
     if !time_fits(time_ceiling(labels, at, j), time_at(labels, at, j)) {
-        return 17;
+        return LabelRefusal::Lists;
     }
-    11
+    LabelRefusal::Bytes
 }
 
-// The number of the first entries of a list, all of which stand whole in the file. Each is read once.
-fn entries_number(labels: &[u8], least: Energy, at: usize, whole: usize) -> u32
+// Tests the first entries of a list, all of which stand whole in the file. Each is read once.
+fn test_entries(labels: &[u8], least: Energy, at: usize, whole: usize) -> Result<(), LabelRefusal>
     requires whole_in_bounds { entries_end labels.now at whole ≤ length labels.now }
     requires least_value { least.0 ≡ least_entry_energy (version_of labels.now) }
-    ensures { result ≡ first_fault (entry_number labels.now at) 0 whole }
+    ensures { number_of result ≡ first_fault (entry_number labels.now at) 0 whole }
 {
     let mut ceiling = Seconds(MOST_FIGURE + 1);
     let mut floor = least;
-    let mut j: usize = 0;
-    while j < whole {
+    for j in 0..whole {
         let time = time_at(labels, at, j);
         let energy = energy_at(labels, at, j);
-        if !time_fits(ceiling, time) {
-            return 17;
-        }
-        if !energy_fits(floor, energy) {
-            return 17;
+        if !time_fits(ceiling, time) || !energy_fits(floor, energy) {
+            return Err(LabelRefusal::Lists);
         }
         ceiling = time;
-        floor = energy.plus(Energy(1));
-        j += 1;
+        floor = energy + Energy(1);
     }
-    0
+    Ok(())
 }
 
 // How many of `count` entries of the list at a byte stand whole in the file.
@@ -144,84 +133,75 @@ fn entries_inside(labels: &[u8], at: usize, count: usize) -> usize
     requires { count_end at ≤ length labels.now }
     ensures { Inside labels.now at count result }
 {
-    let whole = (labels.len() - at - COUNT_BYTES) / ENTRY_BYTES;
-    if whole < count {
-        return whole;
-    }
-    count
+    count.min((labels.len() - at - COUNT_BYTES) / ENTRY_BYTES)
 }
 
-// The number of the list at a byte: 11, 17 or 0.
-pub fn list_number(labels: &[u8], least: Energy, at: usize) -> u32
+// Tests the list at a byte.
+pub fn test_list(labels: &[u8], least: Energy, at: usize) -> Result<(), LabelRefusal>
     requires at_in_bounds { (at ≤ length labels.now) × (length labels.now ≤ most_bytes) }
     requires least_value { least.0 ≡ least_entry_energy (version_of labels.now) }
-    ensures { result ≡ list_number labels.now at }
+    ensures { number_of result ≡ list_number labels.now at }
 {
     if labels.len() < at + COUNT_BYTES {
-        return 11;
+        return Err(LabelRefusal::Bytes);
     }
     let count = count_at(labels, at) as usize;
     if count > MOST_COUNT {
-        return 17;
+        return Err(LabelRefusal::Lists);
     }
     let whole = entries_inside(labels, at, count);
-    let number = entries_number(labels, least, at, whole);
-    if number != 0 {
-        return number;
+    test_entries(labels, least, at, whole)?;
+    if whole < count {
+        return Err(cut_entry_refusal(labels, at, whole));
     }
-    if whole == count {
-        return 0;
-    }
-    cut_entry_number(labels, at, whole)
+    Ok(())
 }
 
-// What a pass over lists has come to: the number of the first fault or, at number 0, the byte behind the lists passed and the
-// entries counted.
+// The byte behind the lists that were passed, and the entries counted.
 #[derive(Clone, Copy)]
-pub struct Scan {
-    pub number: u32,
+pub struct Scanned {
     pub at: usize,
     pub total: usize,
 }
 
 // Passes over so many lists, whatever their lengths.
-fn scan_some(labels: &[u8], least: Energy, at: usize, lists: u32, total: usize) -> Scan
+fn scan_some(
+    labels: &[u8],
+    least: Energy,
+    at: usize,
+    lists: u32,
+    total: usize,
+) -> Result<Scanned, LabelRefusal>
     requires at_in_bounds { (at ≤ length labels.now) × (length labels.now ≤ most_bytes) }
     requires total_le_at { total ≤ at }
     requires least_value { least.0 ≡ least_entry_energy (version_of labels.now) }
-    ensures { ScannedSome labels.now at lists total result.number result.at result.total }
+    ensures { ScannedSome labels.now at lists total result }
 {
-    let mut place = Place { at: at };
+    let mut place = Place { at };
     let mut sum = total;
-    let mut k: u32 = 0;
-    while k < lists {
-        let here = place.at;
-        let number = list_number(labels, least, here);
-        if number != 0 {
-            return Scan {
-                number: number,
-                at: 0,
-                total: 0,
-            };
-        }
+    for _ in 0..lists {
+        test_list(labels, least, place.at)?;
         sum += place.count(labels) as usize;
         place = place.next(labels);
-        k += 1;
     }
-    let behind = place.at;
-    Scan {
-        number: 0,
-        at: behind,
+    Ok(Scanned {
+        at: place.at,
         total: sum,
-    }
+    })
 }
 
 // Passes over the lists of one junction, as many as its depth: a run of single entries, a run of short lists, and what is left.
-fn scan_junction(labels: &[u8], least: Energy, at: usize, depth: u32, total: usize) -> Scan
+fn scan_junction(
+    labels: &[u8],
+    least: Energy,
+    at: usize,
+    depth: u32,
+    total: usize,
+) -> Result<Scanned, LabelRefusal>
     requires at_in_bounds { (at ≤ length labels.now) × (length labels.now ≤ most_bytes) }
     requires total_le_at { total ≤ at }
     requires least_value { least.0 ≡ least_entry_energy (version_of labels.now) }
-    ensures { ScannedSome labels.now at depth total result.number result.at result.total }
+    ensures { ScannedSome labels.now at depth total result }
 {
     let single = pass_single(labels, least, at, depth, total);
     let short = pass_short(labels, least, single.at, depth - single.lists, single.total);
@@ -230,37 +210,31 @@ fn scan_junction(labels: &[u8], least: Energy, at: usize, depth: u32, total: usi
 }
 
 // Passes over all lists once, and notes where each junction's start.
-pub fn scan_lists(labels: &[u8], depths: &[u32; 1024], tables: &mut [u32; 13312]) -> Scan
+pub fn scan_lists(
+    labels: &[u8],
+    depths: &[u32; 1024],
+    tables: &mut [u32; 13312],
+) -> Result<Scanned, LabelRefusal>
     requires parents_fit { ParentsFit labels.now }
     requires depths_filled { DepthsFilled labels.now depths.now }
     requires labels_len_bound { length labels.now ≤ most_bytes }
     requires tables_len { length tables.old ≡ table_places }
-    ensures { Scanned labels.now tables.new result.number result.at result.total }
+    ensures { ScannedAll labels.now tables.new result }
 {
     let least = least_entry_energy(version_of(labels));
-    let n = junctions_of(labels) as usize;
-    let mut at = lists_from(labels);
-    let mut total: usize = 0;
-    let mut v: usize = 0;
-    while v < n {
-        tables[STARTS + v] = at as u32;
-        let depth = depths[v];
-        let scan = scan_junction(labels, least, at, depth, total);
-        if scan.number != 0 {
-            return scan;
-        }
-        at = scan.at;
-        total = scan.total;
-        v += 1;
+    let mut passed = Scanned {
+        at: lists_from(labels),
+        total: 0,
+    };
+    for v in 0..junctions_of(labels) as usize {
+        tables[STARTS + v] = passed.at as u32;
+        passed = scan_junction(labels, least, passed.at, depths[v], passed.total)?;
     }
-    Scan {
-        number: 0,
-        at: at,
-        total: total,
-    }
+    Ok(passed)
 }
 
 // Loads the list at a byte into the first places of two slices, and returns its count.
+#[tactic(auto, unfolding(forest::specs::LabelFile::list_end))]
 pub fn load(labels: &[u8], at: usize, times: &mut [u32], energies: &mut [u32]) -> usize
     requires at_in_bounds { list_end labels.now at ≤ length labels.now }
     requires at_in_bounds_2 { count_at labels.now at ≤ length times.old }
@@ -268,13 +242,9 @@ pub fn load(labels: &[u8], at: usize, times: &mut [u32], energies: &mut [u32]) -
     ensures { Loaded labels.now at times.old energies.old times.new energies.new result }
 {
     let count = count_at(labels, at) as usize;
-    let mut j: usize = 0;
-    while j < count {
-        let time = time_at(labels, at, j);
-        let energy = energy_at(labels, at, j);
-        times[j] = time.0;
-        energies[j] = energy.0;
-        j += 1;
+    for j in 0..count {
+        times[j] = time_at(labels, at, j).0;
+        energies[j] = energy_at(labels, at, j).0;
     }
     count
 }

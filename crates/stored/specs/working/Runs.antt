@@ -3,11 +3,6 @@ use Rattle.std.specs.Prelude.{◌≡◌, List, ℕ, ◌+◌, ◌*◌, ◌≤◌,
 use Rattle.forest.specs.LabelFile.{count_at, entries_end, short_bytes}
 use Rattle.stored.specs.ListForm.{most_figure, entry_number, list_number}
 
--- At most 1, and 1 only if the fact holds
-pub record Flagged (fact : Type 0) (r : ℕ) : Type 0 where
-  pub small : r ≤ 1
-  pub holds : 1 ≤ r → fact
-
 -- An energy up to the most, and above the one before it
 pub record EnergyFollows (before e : ℕ) : Type 0 where
   pub most : e ≤ most_figure
@@ -18,9 +13,10 @@ pub record Leading (labels : List ℕ) (at r : ℕ) : Type 0 where
   pub few : r ≤ 2
   pub fit : (j : ℕ) → j < r → entry_number labels at j ≡ 0
 
--- A list of one entry without fault
-pub record SingleList (labels : List ℕ) (at : ℕ) : Type 0 where
-  pub one : count_at labels at ≡ 1
+-- A list of at most two entries, as many as its count, without fault
+pub record ShortList (labels : List ℕ) (at count : ℕ) : Type 0 where
+  pub is : count ≡ count_at labels at
+  pub short : count ≤ 2
   pub fits : list_number labels at ≡ 0
 
 -- r of the lists stand in so many bytes, if none has more than two entries

@@ -1,5 +1,5 @@
 -- What the functions that pass over, find and load stored lists hand back.
-use Rattle.std.specs.Prelude.{◌≡◌, Bool, ◌&&◌, List, ℕ, zero, suc, ◌+◌, ◌*◌, ◌≤◌, ◌<◌, leb, ltb, length}
+use Rattle.std.specs.Prelude.{◌≡◌, Bool, ◌&&◌, List, ℕ, zero, suc, ◌+◌, ◌*◌, ◌≤◌, ◌<◌, leb, ltb, length, Result, IfOk, MatchResult}
 use Rattle.tables.specs.working.Layout.{table_places}
 use Rattle.refusals.specs.Order.{first_fault}
 use Rattle.refusals.specs.Lent.{filled}
@@ -7,6 +7,9 @@ use Rattle.forest.specs.LabelVersions.{least_entry_energy, entry_bytes}
 use Rattle.network.specs.NetworkFile.{version_of}
 use Rattle.forest.specs.LabelFile.{count_at, time_at, energy_at, count_bytes, entries_end, list_end}
 use Rattle.stored.specs.Stored.{lists_of, place_of, list_place, entries_before, tabulate}
+use Rattle.stored.specs.declared.refusal.LabelRefusal.{LabelRefusal}
+use Rattle.stored.specs.declared.stored.Scanned.{Scanned}
+use Rattle.stored.specs.Refusal.{refusal_number, number_of}
 use Rattle.stored.specs.ListForm.{most_figure, list_number, lists_number}
 use Rattle.stored.specs.working.Formed.{StartsFilled}
 
@@ -50,13 +53,6 @@ pub record Inside (labels : List ℕ) (at count whole : ℕ) : Type 0 where
   pub fits : entries_end labels at whole ≤ length labels
   pub cut : whole < count → length labels < entries_end labels at (suc whole)
 
--- After the k lists from byte `at` on: their number and, if that is 0, the byte behind them and the entries counted so far
-pub record ScannedSome (labels : List ℕ) (at k total : ℕ) (number behind sum : ℕ) : Type 0 where
-  pub is : number ≡ first_fault (λ i. list_number labels (further labels at i)) 0 k
-  pub place : number ≡ 0 → behind ≡ further labels at k
-  pub inside : number ≡ 0 → behind ≤ length labels
-  pub counted : number ≡ 0 → at + count_bytes * k + entry_bytes (version_of labels) * sum ≡ behind + entry_bytes (version_of labels) * total
-
 -- Of so many lists from byte `at` on the first k are passed, none with a fault
 pub record PassedSome (labels : List ℕ) (at lists total : ℕ) (k behind sum : ℕ) : Type 0 where
   pub few : k ≤ lists
@@ -65,13 +61,23 @@ pub record PassedSome (labels : List ℕ) (at lists total : ℕ) (k behind sum :
   pub inside : behind ≤ length labels
   pub counted : at + count_bytes * k + entry_bytes (version_of labels) * sum ≡ behind + entry_bytes (version_of labels) * total
 
--- After all lists: their number and, if that is 0, the byte behind the last, all entries, and where each junction's lists start
-pub record Scanned (labels tables : List ℕ) (number at total : ℕ) : Type 0 where
-  pub is : number ≡ lists_number labels
+-- After the k lists from byte `at` on: all of them are passed, or one is refused
+abbrev pub ScannedSome : List ℕ → ℕ → ℕ → ℕ → Result Scanned LabelRefusal → Type 0
+ScannedSome labels at k total r =
+    MatchResult r
+    (λ scanned. PassedSome labels at k total k scanned.at scanned.total)
+    (λ refusal. refusal_number refusal ≡ first_fault (λ i. list_number labels (further labels at i)) 0 k)
+
+-- After all lists: their number and, if they are passed, the byte behind the last, all entries, and where each junction's lists start
+pub record AllScanned (labels tables : List ℕ) (scanned : Scanned) : Type 0 where
+  pub behind : scanned.at ≡ place_of labels (lists_of labels)
+  pub sum : scanned.total ≡ entries_before labels (lists_of labels)
+  pub starts_filled : StartsFilled labels tables
+
+pub record ScannedAll (labels tables : List ℕ) (r : Result Scanned LabelRefusal) : Type 0 where
+  pub is : number_of r ≡ lists_number labels
   pub places : length tables ≡ table_places
-  pub behind : number ≡ 0 → at ≡ place_of labels (lists_of labels)
-  pub sum : number ≡ 0 → total ≡ entries_before labels (lists_of labels)
-  pub starts_filled : number ≡ 0 → StartsFilled labels tables
+  pub passed : IfOk r (AllScanned labels tables)
 
 -- The list at byte `at` stands in the first places of two lent slices
 pub record Loaded (labels : List ℕ) (at : ℕ) (times energies times_after energies_after : List ℕ) (count : ℕ) : Type 0 where

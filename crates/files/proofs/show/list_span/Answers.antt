@@ -1,28 +1,13 @@
--- Where v and u are junctions and u is a proper ancestor of v, the list that is found is the one to show, and nowhere else.
-use Rattle.std.proofs.lemmas.Bool.{not_from_true}
-use native.Mathlib.Omega.{arith}
-use Rattle.files.proofs.ShowLaws.{above-deeper, found-stands, span_v_off, span_u_off, span_not_above, span_list}
-use borrow.Author.Rules.{rules}
+-- Where v and u are junctions and u is a proper ancestor of v, the list that is found is the one to show.
+use Rattle.files.proofs.ShowLaws.{above_deeper, found_stands, span_list}
 use Rattle.files.proofs.show.list_span.Goals as goal
 
-pub returns-then-v-n : goal.returns-then-v-n
-returns-then-v-n c = search (span_v_off)
+pub find_list-place-requires-clause-u_bound : goal.find_list-place-requires-clause-u_bound
+find_list-place-requires-clause-u_bound c = above_deeper c.requires.formed.parents c.if-not-is_above.ensures
 
-pub returns-then-u-n : goal.returns-then-u-n
-returns-then-u-n c = search (span_u_off)
-
-pub is_above-requires : goal.is_above-requires
-is_above-requires c = record { parents_fit = c.requires.formed.parents; depths_filled = c.requires.depths_filled; u_bound = omega arith; v_bound = omega arith }
-
-pub returns-then-not-is_above : goal.returns-then-not-is_above
-returns-then-not-is_above c = search (span_not_above)
-
-pub find_list-place-requires : goal.find_list-place-requires
-find_list-place-requires c = let deeper = above-deeper c.requires.formed.parents c.is_above.ensures (not_from_true _ c.if-not-is_above.false) in
-    record { formed = c.requires.formed; depths_filled = c.requires.depths_filled; starts_filled = c.requires.starts_filled; v_bound = (omega arith, omega arith); u_bound = deeper }
-
-pub next-behind-requires : goal.next-behind-requires
-next-behind-requires c = search (found-stands, rules)
+pub next-requires-clause-at_in_bounds : goal.next-requires-clause-at_in_bounds
+next-requires-clause-at_in_bounds c = found_stands c.requires.formed c.find_list-place.ensures
 
 pub returns : goal.returns
-returns c = search (span_list)
+returns c = span_list c.requires.labels_value c.requires.formed c.junctions_of-n.ensures.is c.if-v-n.false c.if-u-n.false c.if-not-is_above.ensures
+    c.find_list-place.ensures c.next.ensures

@@ -12,5 +12,5 @@ scan_some-requires c = let counts = passed_counts _ _ _ _ c.pass_single-single.e
     omega (arith, passed_counts _ _ _ _ c.pass_short-short.ensures counts)
 
 pub returns : goal.returns
-returns c = passed-left _ _ _ _ c.pass_single-single.ensures refl
-    (passed-left _ _ _ _ c.pass_short-short.ensures refl c.scan_some.ensures)
+returns c = passed-left _ _ _ _ c.pass_single-single.ensures refl _
+    (passed-left _ _ _ _ c.pass_short-short.ensures refl _ c.scan_some.ensures)

@@ -6,4 +6,4 @@ use Rattle.stored.proofs.place.Place.next.Goals as goal
 
 pub returns : goal.returns
 unfolding list_end
-returns c = omega (arith, c.entries_end.ensures.each [], c.count_at-count.ensures.is)
+returns c = omega (arith, c.entries_end.ensures.each [], c.count.ensures.is)
