@@ -1,94 +1,31 @@
 -- The test of a stored list, road by road: what one road tells, and that the roads of a junction together decide whether its list agrees.
--- In this order: marks; one road; the roads so far; all roads; what the code asks.
+-- In this order: one road; the roads so far; all roads; what the code asks.
 use mathlib.Core.Path.{◌≡◌, refl, sym, ap, ◌∙◌}
 use mathlib.Core.Logic.{◌⊎◌, inl, inr, ⊎_elim}
 use mathlib.Core.Bool.{Bool, true, false, true≢false}
 use mathlib.Core.List.{List}
 use Prim.Native.Nat.{ℕ, suc, ◌+◌, ◌≤◌, ◌<◌}
-use native.Mathlib.Decide.{dec_le, ℕ_discrete}
+use native.Mathlib.Decide.{ℕ_discrete}
 use native.Mathlib.Omega.{arith}
-use lib.ListN.{length, get_or, set, length-set}
-use lib.Seq.{get_or-set_same, get_or-set_other}
+use lib.ListN.{get_or}
 use Rattle.paths.specs.Weights.{weights, energy, pair, Covered}
 use Rattle.paths.specs.LocalTest.{ListAgrees}
 use Rattle.lists.specs.Entries.{Weight}
 use Rattle.refusals.specs.working.Decides.{Decides}
 use Rattle.tables.specs.working.Layout.{firsts_from}
-use Rattle.network.specs.NetworkFile.{header_bytes, network_of, roads_of, road_time, road_energy, RoadArc}
-use Rattle.network.specs.working.Roads.{touches, other_end, next_road, Grouped}
+use Rattle.network.specs.NetworkFile.{network_of, roads_of, road_time, road_energy, RoadArc}
+use Rattle.network.specs.working.Roads.{touches, other_end, next_road}
 use Rattle.network.proofs.RoadsAt.{next_road_low, next_road-touches, next_road-passed, arc_touches}
-use Rattle.network.specs.working.Fits.{NetworkFits}
 use Rattle.forest.specs.LabelFile.{parents_of, count_at}
 use Rattle.stored.specs.Stored.{list_place, list_at, stored}
 use Rattle.stored.specs.working.Formed.{ListFits, FilesFit}
 use Rattle.stored.proofs.Tabulate.{Stands, member-stands, tabulate-member}
-use Rattle.agree.specs.working.Covering.{Marking, ListRead, entry_of, MetBy, Covering}
-use Rattle.agree.specs.working.Agreeing.{AgreeInput, Unmarked, RoadInput, Left, Met, RoadCovers, MetOver, RoadTested, AllMarked, Cleared, MarksRead}
+use Rattle.agree.specs.working.Covering.{Marking, entry_of, MetBy, Covering}
+use Rattle.agree.specs.working.Agreeing.{AgreeInput, Unmarked, RoadInput, Left, Met, RoadCovers, MetOver, RoadTested, AllMarked, MarksRead}
 use Rattle.stored.proofs.Passed.{stored-fits}
+use Rattle.agree.proofs.CoverSteps.{ListRead}
 use Rattle.agree.proofs.MergeSteps.{marking-none, marking_as, marking-both}
 use Rattle.agree.proofs.Neighbours.{Leaves, the_arc}
-
--- ---- Marks
-
--- Of the first `count` marks i were read, all of them 1, and have become 0
-pub record Unmarking (marks now : List ℕ) (count i : ℕ) : Type 0 where
-  pub few : i ≤ count
-  pub marked : AllMarked marks i
-  pub cleared : Cleared marks now i
-
--- none is read yet
-pub unmarking_none : {marks : List ℕ} {count : ℕ} → length marks ≡ 4096 → Unmarking marks marks count 0
-unmarking_none places =
-    record {
-      few = omega arith;
-      marked = record { each = λ i h. absurd (omega arith) };
-      cleared = record { places = places; each = λ i h. absurd (omega arith); kept = λ i h. refl };
-    }
-
-module _ {marks now : List ℕ} {count i : ℕ} (so : Unmarking marks now count i) where
-  -- one more is 1, and becomes 0
-  pub unmarking_more : count ≤ 4096 → i < count → get_or now i 0 ≡ 1 → Unmarking marks (set now i 0) count (i + 1)
-  unmarking_more room below one =
-      record {
-        few = omega arith;
-        marked = record { each = λ k h. was_one k h (ℕ_discrete k i) };
-        cleared =
-            record {
-              places = length-set now i 0 ∙ so.cleared.places;
-              each = λ k h. is_zero k h (ℕ_discrete k i);
-              kept = λ k h. get_or-set_other now i k 0 0 (λ e. omega arith) ∙ so.cleared.kept k (omega arith);
-            };
-      }
-    where
-      was_one : (k : ℕ) → k < i + 1 → Dec (k ≡ i) → get_or marks k 0 ≡ 1
-      was_one k h (yes e) = rw e (sym (so.cleared.kept i (omega arith)) ∙ one)
-      was_one k h (no apart) = so.marked.each k (omega arith)
-
-      is_zero : (k : ℕ) → k < i + 1 → Dec (k ≡ i) → get_or (set now i 0) k 0 ≡ 0
-      is_zero k h (yes e) = rw e (get_or-set_same now i 0 0 (omega (arith, so.cleared.places)))
-      is_zero k h (no apart) = get_or-set_other now i k 0 0 apart ∙ so.cleared.each k (omega arith)
-
-  -- a mark that is not 1 refuses
-  pub unmarking_refuse : i < count → (get_or now i 0 ≡ 1 → ⊥) → MarksRead marks now count false
-  unmarking_refuse below apart =
-      record {
-        decides = record { holds = λ e. absurd (true≢false (sym e)); fails = λ e all. apart (so.cleared.kept i (omega arith) ∙ all.each i below) };
-        cleared = λ e. absurd (true≢false (sym e));
-      }
-
-  -- all are read
-  pub unmarking_end : count ≤ i → MarksRead marks now count true
-  unmarking_end all =
-      record {
-        decides = record { holds = λ e. record { each = λ k h. so.marked.each k (omega arith) }; fails = λ e. absurd (true≢false e) };
-        cleared =
-            λ e.
-            record {
-              places = so.cleared.places;
-              each = λ k h. so.cleared.each k (omega arith);
-              kept = λ k h. so.cleared.kept k (omega (arith, so.few));
-            };
-      }
 
 -- ---- One road
 
@@ -291,18 +228,6 @@ module _ {net labels : List ℕ} {v u own : ℕ} (own_is : own ≡ list_place la
               let found = agrees.met {p = entry_of labels own i} (rw (own_list labels v u own own_is) (tabulate-member (entry_of labels own) (count_at labels own) inside)) in
               so.marking.marked i (record { in_list = inside; met = found; over = omega (arith, found.arc.stands) })
 
-      -- and every mark is 0 again
-      pub agreed_unmarked : answer ≡ true → Unmarked later
-      agreed_unmarked e = record { marks_places = cleared.places; each = λ i h. zero-again i h (dec_le count i) }
-        where
-          cleared : Cleared now later count
-          cleared = marks-read.cleared e
-
-          zero-again : (i : ℕ) → i < 4096 → Dec (count ≤ i) → get_or later i 0 ≡ 0
-          zero-again i h (no before) = cleared.each i (omega arith)
-          zero-again i h (yes behind) =
-              cleared.kept i behind ∙ ⊎_elim (λ same. same ∙ unmarked.each i h) (λ met. absurd (omega (arith, met.in_list, read.counted))) (so.marking.only i)
-
 -- each turn comes to a later road
 pub next-later : (net : List ℕ) (v k next : ℕ) → next ≡ next_road net v (suc k) → k < next
 next-later net v k next e = omega (arith, next_road_low net v (suc k))
@@ -310,14 +235,6 @@ next-later net v k next e = omega (arith, next_road_low net v (suc k))
 -- ---- What the code asks at its start and at each road
 
 module _ {net labels tables places : List ℕ} {v u : ℕ} (input : AgreeInput net labels tables places v u) where
-  -- the junction has a place in the tables
-  pub own_index : v < 1024
-  own_index = omega (arith, input.on_map, input.beside.formed.parents.few_junctions)
-
-  -- the header stands in the file
-  pub header-inside : header_bytes ≤ length net
-  header-inside = omega (arith, input.beside.network.whole)
-
   -- the table has the byte of the own list
   pub own_place : {at : ℕ} → at ≡ get_or places v 0 → at ≡ list_place labels v u
   own_place at-is = at-is ∙ input.places_for.below v input.on_map input.above
@@ -334,7 +251,3 @@ module _ {net labels tables places : List ℕ} {v u : ℕ} (input : AgreeInput n
     -- what is asked at each road
     pub road_input : RoadInput net labels places v u k
     road_input = record { beside = input.beside; places_for = input.places_for; above = input.above; stands = stands; here = so.here stands }
-
-    -- the table says which road follows
-    pub next_input : NetworkFits net × Grouped net tables × (k < roads_of net) × (touches net v k ≡ true)
-    next_input = (input.beside.network, input.grouped, stands, so.here stands)

@@ -2,23 +2,23 @@
 -- In this order: marks; all sums; the one sum of a road that ends at the ancestor.
 use mathlib.Core.Path.{◌≡◌, refl, sym, ap, ◌∙◌}
 use mathlib.Core.Logic.{◌⊎◌, inl, inr, ⊎_elim}
-use mathlib.Core.Bool.{Bool, true, false, true≢false}
+use mathlib.Core.Bool.{true, false, true≢false}
 use mathlib.Core.List.Memᴰ
 use mathlib.Core.List.{List, [], ◌∷◌, Memᴰ}
 use Prim.Native.Nat.{ℕ, ◌+◌, ◌-◌, ◌≤◌, ◌<◌}
 use native.Mathlib.Decide.{dec_le, ℕ_discrete}
 use native.Mathlib.Omega.{arith}
 use borrow.Author.Count.{below_more}
-use borrow.Author.Tests.{ltb-true, ltb-false, leb-true}
-use lib.Dec.{ltb, leb}
+use Rattle.std.specs.Prelude.{Option, Some, None, is_some}
 use lib.ListN.{length}
 use Rattle.paths.specs.Weights.{weights, energy, pair, time, spent, Covered}
 use Rattle.lists.specs.Entries.{Weight}
 use Rattle.forest.specs.LabelFile.{count_at, time_at, energy_at}
 use Rattle.stored.specs.Stored.{list_at}
+use Rattle.stored.specs.working.Formed.{ListFits}
 use Rattle.stored.proofs.Tabulate.{Stands, member-stands, tabulate-member}
-use Rattle.agree.specs.working.Covering.{Marking, ListRead, entry_of, CoversAt, EqualsAt, Behind, SumCompared, MetBy, Covering}
-use Rattle.agree.proofs.CoverSteps.{energy_rises_far, time_falls_far, covering_alone, covers-member, Somewhere, member-covers, covered_eq, equals_eq}
+use Rattle.agree.specs.working.Covering.{Marking, entry_of, CoversAt, EqualsAt, Behind, CoveredBy, SumCompared, MetBy, Covering}
+use Rattle.agree.proofs.CoverSteps.{ListRead, energy_rises_far, time_falls_far, covering_alone, covers-member, Somewhere, member-covers, covered_eq, equals_eq}
 
 -- ---- Marks
 
@@ -126,23 +126,14 @@ module _ {labels : List ℕ} {at own : ℕ} {arc : Weight} {marks now : List ℕ
   merged_end rest so h = merged_all so (λ b from below. absurd (omega (arith, rest.counted)))
 
 module _ {labels : List ℕ} {at own : ℕ} {arc : Weight} {marks now : List ℕ} where
-  -- the own entry before the next has energy at most the next sum's
-  pub merged_behind :
-      {left j next e : ℕ} → ListRead labels at left → Merged labels at own arc marks now j next → j < left → e ≡ spent energy arc + energy_at labels at j → Behind labels own next e
-  merged_behind {j = j} rest so inside adds-energy =
-      let behind = so.behind j (omega arith) (omega (arith, rest.counted)) in
-      record { in_list = behind.in_list; cheap = λ h. omega (arith, behind.cheap h) }
-
   module _
-      {count left j next t e i : ℕ}
-      {later : List ℕ}
-      (read : ListRead labels own count)
+      {left j next t e : ℕ}
+      (fits : ListFits labels own)
       (rest : ListRead labels at left)
       (so : Merged labels at own arc marks now j next)
       (inside : j < left)
       (adds-time : t ≡ time energy arc + time_at labels at j)
       (adds-energy : e ≡ spent energy arc + energy_at labels at j)
-      (turn : SumCompared labels own (pair t e) now later i)
     where
       -- the turn's pair is the sum at j
       is_sum : pair t e ≡ sum_of labels at arc j
@@ -152,38 +143,35 @@ module _ {labels : List ℕ} {at own : ℕ} {arc : Weight} {marks now : List ℕ
       in_rest = omega (arith, rest.counted)
 
       -- a sum that is not covered refuses
-      pub merged_refuse : count ≤ i → Covering labels own arc (list_at labels at) marks later false
+      pub merged_refuse : {later : List ℕ} → ((i : ℕ) → CoversAt labels own (pair t e) i → ⊥) → Covering labels own arc (list_at labels at) marks later false
       merged_refuse none =
           record {
             decides =
                 record {
                   holds = λ f. absurd (true≢false (sym f));
-                  fails = λ f all. uncovered (member-covers read.fits (covered_eq (sym is_sum) (all (entry_of labels at j) (tabulate-member (entry_of labels at) (count_at labels at) in_rest))));
+                  fails = λ f all. uncovered (member-covers fits (covered_eq (sym is_sum) (all (entry_of labels at j) (tabulate-member (entry_of labels at) (count_at labels at) in_rest))));
                 };
             marking = λ f. absurd (true≢false (sym f));
           }
         where
-          uncovered : Somewhere read.fits (pair t e) → ⊥
-          uncovered at_place = turn.none (omega (arith, none, turn.in_list, read.counted)) at_place.place at_place.covers
+          uncovered : Somewhere fits (pair t e) → ⊥
+          uncovered at_place = none at_place.place at_place.covers
 
-      module _ (some : i < count) where
-        found_here : i < count_at labels own
-        found_here = omega (arith, read.counted)
-
+      module _ {later : List ℕ} {i : ℕ} (turn : CoveredBy labels own (pair t e) now later i) where
         -- the entry that covers this sum has less energy than each later sum
         cheaper : (b : ℕ) → j < b → b < count_at labels at → energy_at labels own i < spent energy (sum_of labels at arc b)
-        cheaper b from below = omega (arith, (turn.covers found_here).no_larger, energy_rises_far rest.fits j b from below)
+        cheaper b from below = omega (arith, turn.covers.no_larger, energy_rises_far rest.fits j b from below)
 
         -- one more sum is covered
         pub merged_more : Merged labels at own arc marks later (j + 1) (i + 1)
         merged_more =
             record {
               few = omega (arith, in_rest);
-              behind = λ b from below. record { in_list = omega (arith, found_here); cheap = λ h. rw last (omega (arith, cheaper b (omega arith) below)) };
-              covered = below_more _ j so.covered (covered_eq is_sum (covers-member read.fits (turn.covers found_here)));
+              behind = λ b from below. record { in_list = omega (arith, turn.covers.in_list); cheap = λ h. rw last (omega (arith, cheaper b (omega arith) below)) };
+              covered = below_more _ j so.covered (covered_eq is_sum (covers-member fits turn.covers));
               marking =
                   marking_as (λ k. MetBefore labels at own arc j k ⊎ EqualsAt labels own (pair t e) k) (MetBefore labels at own arc (j + 1))
-                  (marking-both (MetBefore labels at own arc j) (EqualsAt labels own (pair t e)) so.marking (turn.marking found_here))
+                  (marking-both (MetBefore labels at own arc j) (EqualsAt labels own (pair t e)) so.marking turn.marking)
                   (λ k met. split k met (ℕ_discrete met.place j))
                   (λ k. ⊎_elim (λ met. record { place = met.place; below = omega (arith, met.below); equals = met.equals }) (λ equal. record { place = j; below = omega arith; equals = equals_eq is_sum equal }));
             }
@@ -197,9 +185,9 @@ module _ {labels : List ℕ} {at own : ℕ} {arc : Weight} {marks now : List ℕ
 
         -- an entry no slower than the last sum covers all that follow, and equals none of them
         pub merged_early :
-            {last own-time : ℕ} {quick : Bool} → last ≡ time energy arc + time_at labels at (left - 1) → own-time ≡ time_at labels own i →
-            quick ≡ leb own-time last → quick ≡ true → Covering labels own arc (list_at labels at) marks later true
-        merged_early {last} {own-time} last-is own_is test held = merged_all merged_more passes
+            {last own-time : ℕ} → last ≡ time energy arc + time_at labels at (left - 1) → own-time ≡ time_at labels own i → own-time ≤ last →
+            Covering labels own arc (list_at labels at) marks later true
+        merged_early {last} {own-time} last-is own_is quick = merged_all merged_more passes
           where
             -- no sum is sooner than the last
             sooner : (b : ℕ) → b < count_at labels at → time_at labels at (left - 1) ≤ time_at labels at b
@@ -212,18 +200,18 @@ module _ {labels : List ℕ} {at own : ℕ} {arc : Weight} {marks now : List ℕ
             covers : (b : ℕ) → j + 1 ≤ b → b < count_at labels at → CoversAt labels own (sum_of labels at arc b) i
             covers b from below =
                 record {
-                  in_list = found_here;
-                  no_larger = (omega (arith, cheaper b (omega arith) below), omega (arith, sooner b below, leb-true own-time last (sym test ∙ held)));
+                  in_list = turn.covers.in_list;
+                  no_larger = (omega (arith, cheaper b (omega arith) below), omega (arith, sooner b below));
                 }
 
             passes : (b : ℕ) → j + 1 ≤ b → b < count_at labels at → Passes labels own (sum_of labels at arc b)
             passes b from below =
-                record { covered = covers-member read.fits (covers b from below); unequal = unequal }
+                record { covered = covers-member fits (covers b from below); unequal = unequal }
               where
                 -- only entry i could equal the sum, and it has less energy
                 unequal : (k : ℕ) → EqualsAt labels own (sum_of labels at arc b) k → ⊥
                 unequal k equal =
-                    omega (arith, cheaper b (omega arith) below, ap (spent energy) equal.is, ap (energy_at labels own) (covering_alone read.fits (covers b from below) equal))
+                    omega (arith, cheaper b (omega arith) below, ap (spent energy) equal.is, ap (energy_at labels own) (covering_alone fits (covers b from below) equal))
 
 -- ---- The one sum of a road that ends at the ancestor
 
@@ -237,33 +225,26 @@ alone t e = λ i. pair (zero_time i) (zero_energy i)
     zero_energy : e + 0 ≡ e
     zero_energy = omega arith
 
--- the entry that was found, or the lack of one, decides
-pub road-alone :
-    {labels : List ℕ} {own count t e : ℕ} {marks later : List ℕ} {r : ℕ} {answer : Bool} →
-    ListRead labels own count →
-    SumCompared labels own (pair t e) marks later r →
-    answer ≡ ltb r count →
-    Covering labels own (pair t e) (pair 0 0 ∷ []) marks later answer
-road-alone {labels} {own} {count} {t} {e} {marks} {later} {r} {answer} read turn test =
-    record {
-      decides =
-          record {
-            holds = λ f q m. covered_eq (sym (one_sum m)) (covers-member read.fits (turn.covers (found_here f)));
-            fails = λ f all. uncovered f (member-covers read.fits (covered_eq (alone t e) (all (pair 0 0) (Memᴰ.head refl))));
-          };
-      marking =
-          λ f.
-          marking_as (EqualsAt labels own (pair t e)) (MetBy labels own (pair t e) (pair 0 0 ∷ [])) (turn.marking (found_here f))
-          (λ i met. record { in_list = met.in_list; is = sym met.adds ∙ one_sum met.member })
-          (λ i equal. record { in_list = equal.in_list; rest = pair 0 0; member = Memᴰ.head refl; adds = alone t e ∙ sym equal.is });
-    }
-  where
-    one_sum : {q : Weight} → Memᴰ q (pair 0 0 ∷ []) → (weights energy).◌⊕◌ (pair t e) q ≡ pair t e
-    one_sum m = ap ((weights energy).◌⊕◌ (pair t e)) (Memᴰ.eq_of_singleton m) ∙ alone t e
+module _ {labels : List ℕ} {own t e : ℕ} (fits : ListFits labels own) where
+  one_sum : {q : Weight} → Memᴰ q (pair 0 0 ∷ []) → (weights energy).◌⊕◌ (pair t e) q ≡ pair t e
+  one_sum m = ap ((weights energy).◌⊕◌ (pair t e)) (Memᴰ.eq_of_singleton m) ∙ alone t e
 
-    found_here : answer ≡ true → r < count_at labels own
-    found_here f = omega (arith, ltb-true r count (sym test ∙ f), read.counted)
-
-    uncovered : answer ≡ false → Somewhere read.fits (pair t e) → ⊥
-    uncovered f at_place =
-        turn.none (omega (arith, ltb-false r count (sym test ∙ f), read.counted, turn.in_list)) at_place.place at_place.covers
+  -- the entry that was found, or the lack of one, decides
+  pub road-alone : {marks later : List ℕ} (r : Option ℕ) → SumCompared labels own (pair t e) marks later r → Covering labels own (pair t e) (pair 0 0 ∷ []) marks later (is_some r)
+  road-alone (Some i) turn =
+      record {
+        decides = record { holds = λ f q m. covered_eq (sym (one_sum m)) (covers-member fits turn.covers); fails = λ f. absurd (true≢false f) };
+        marking =
+            λ f.
+            marking_as (EqualsAt labels own (pair t e)) (MetBy labels own (pair t e) (pair 0 0 ∷ [])) turn.marking
+            (λ k met. record { in_list = met.in_list; is = sym met.adds ∙ one_sum met.member })
+            (λ k equal. record { in_list = equal.in_list; rest = pair 0 0; member = Memᴰ.head refl; adds = alone t e ∙ sym equal.is });
+      }
+  road-alone None none =
+      record {
+        decides = record { holds = λ f. absurd (true≢false (sym f)); fails = λ f all. uncovered (member-covers fits (covered_eq (alone t e) (all (pair 0 0) (Memᴰ.head refl)))) };
+        marking = λ f. absurd (true≢false (sym f));
+      }
+    where
+      uncovered : Somewhere fits (pair t e) → ⊥
+      uncovered at_place = none at_place.place at_place.covers

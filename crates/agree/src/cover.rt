@@ -5,175 +5,123 @@ ghost use Rattle.paths.specs.Weights.{pair};
 ghost use Rattle.forest.specs.LabelFile.{count_at, time_at, energy_at};
 ghost use Rattle.stored.specs.Stored.{list_at};
 ghost use Rattle.stored.specs.working.Formed.{ListFits};
-ghost use Rattle.agree.specs.working.Covering.{ListRead, QuickFrom, EntryCompared, Behind, SumCompared, Covering};
+ghost use Rattle.agree.specs.working.Covering.{QuickFrom, EntryCompared, Behind, SumCompared, Covering};
 
-use paths::energy::Energy;
+use paths::pair::Pair;
 use paths::seconds::Seconds;
-use stored::stored::{count_at, energy_at, time_at};
+use stored::list::StoredList;
 
-// The first own entry from the hint on that is no slower than a time; the count if there is none.
-fn quick_from(labels: &[u8], own: usize, own_count: usize, time: Seconds, hint: usize) -> usize
-    requires list_read { ListRead labels.now own own_count }
-    requires hint_le_own_count { hint ≤ own_count }
-    ensures { QuickFrom labels.now own time.0 hint result }
-{
-    let mut i = hint;
-    while i < own_count {
-        if time_at(labels, own, i).at_most(time) {
-            return i;
-        }
-        i += 1;
-    }
-    i
+// The list that covers, and how many entries it has, which is read once.
+#[derive(Clone, Copy)]
+pub struct OwnList<'a> {
+    pub list: StoredList<'a>,
+    pub count: usize,
+    ghost counted: { count ≡ count_at list.labels.now list.at },
 }
 
-// The mark of an entry after it was compared: 1 where both numbers are equal, else as it was. A value, so that no branch guards the store.
-fn mark_after(mark: u8, same_time: bool, same_energy: bool) -> u8
-    ensures { result ≡ cond same_time (cond same_energy 1 mark) mark }
+// The first own entry from the hint on that is no slower than a time.
+fn quick_from(own: OwnList<'_>, time: Seconds, hint: usize) -> Option<usize>
+    ensures { QuickFrom own.entry.list.labels.now own.entry.list.at time.0 hint result }
 {
-    if same_time {
-        if same_energy {
-            return 1;
+    for i in hint..own.count {
+        if own.list.time(i) <= time {
+            return Some(i);
         }
     }
-    mark
+    None
 }
 
-// Whether own entry i covers the sum (time, energy); it is marked where it equals the sum.
-fn covers_at(
-    labels: &[u8],
-    own: usize,
-    own_count: usize,
-    i: usize,
-    time: Seconds,
-    energy: Energy,
-    marks: &mut [u8; 4096],
-) -> bool
-    requires list_read { ListRead labels.now own own_count }
-    requires marks_len { length marks.old ≡ 4096 }
-    ensures { EntryCompared labels.now own (pair time.0 energy.0) i marks.old marks.new result }
+// The mark of an entry after it was compared: 1 where it equals the sum, else as it was. A value, so that no branch guards the store.
+fn mark_after(mark: u8, same: bool) -> u8
+    ensures { result ≡ cond same 1 mark }
 {
-    if i >= own_count {
+    if same { 1 } else { mark }
+}
+
+// Whether own entry i covers the sum; it is marked where it equals the sum.
+fn covers_at(own: OwnList<'_>, i: usize, sum: Pair, marks: &mut [u8; 4096]) -> bool
+    requires { length marks.old ≡ 4096 }
+    ensures { EntryCompared own.entry.list.labels.now own.entry.list.at (pair sum.time.0 sum.energy.0) i marks.old marks.new result }
+{
+    if i >= own.count {
         return false;
     }
-    let own_time = time_at(labels, own, i);
-    if time.below(own_time) {
+    let time = own.list.time(i);
+    if sum.time < time {
         return false;
     }
-    let own_energy = energy_at(labels, own, i);
-    if energy.below(own_energy) {
+    let energy = own.list.energy(i);
+    if sum.energy < energy {
         return false;
     }
-    marks[i] = mark_after(marks[i], own_time.equals(time), own_energy.equals(energy));
+    marks[i] = mark_after(marks[i], sum == Pair { time, energy });
     true
 }
 
-// The entry before the next; the first if there is none.
-fn before(next: usize) -> usize
-    ensures { result ≡ next - 1 }
-{
-    if next == 0 {
-        return 0;
-    }
-    next - 1
-}
-
-// The own entry that covers the sum (time, energy), or the count if none does; the entry that equals the sum is marked. Often it
-// is the next entry; else the first that is no slower decides: earlier ones are too slow, and later ones cost more.
-fn cover_sum(
-    labels: &[u8],
-    own: usize,
-    own_count: usize,
-    next: usize,
-    time: Seconds,
-    energy: Energy,
-    marks: &mut [u8; 4096],
-) -> usize
-    requires list_read { ListRead labels.now own own_count }
-    requires behind { Behind labels.now own next energy.0 }
+// The own entry that covers the sum, if one does; the entry that equals the sum is marked. Often it is the next entry; else the
+// first that is no slower decides: earlier ones are too slow, and later ones cost more.
+fn cover_sum(own: OwnList<'_>, next: usize, sum: Pair, marks: &mut [u8; 4096]) -> Option<usize>
+    requires behind { Behind own.list.labels.now own.list.at next sum.energy.0 }
     requires marks_len { length marks.old ≡ 4096 }
-    ensures { SumCompared labels.now own (pair time.0 energy.0) marks.old marks.new result }
+    ensures { SumCompared own.entry.list.labels.now own.entry.list.at (pair sum.time.0 sum.energy.0) marks.old marks.new result }
 {
-    if covers_at(labels, own, own_count, next, time, energy, marks) {
-        return next;
+    if covers_at(own, next, sum, marks) {
+        return Some(next);
     }
-    let quick = quick_from(labels, own, own_count, time, before(next));
-    if covers_at(labels, own, own_count, quick, time, energy, marks) {
-        return quick;
+    let quick = quick_from(own, sum.time, next.saturating_sub(1))?;
+    if covers_at(own, quick, sum, marks) {
+        Some(quick)
+    } else {
+        None
     }
-    own_count
 }
 
 // Whether the one sum of a road that ends at the ancestor, the road itself, is covered; the entry that equals it is marked.
-pub fn cover_road(
-    labels: &[u8],
-    own: usize,
-    own_count: usize,
-    arc_time: Seconds,
-    arc_energy: Energy,
-    marks: &mut [u8; 4096],
-) -> bool
-    requires list_read { ListRead labels.now own own_count }
-    requires marks_len { length marks.old ≡ 4096 }
-    ensures { Covering labels.now own (pair arc_time.0 arc_energy.0) (pair 0 0 ∷ []) marks.old marks.new result }
+pub fn cover_road(own: OwnList<'_>, road: Pair, marks: &mut [u8; 4096]) -> bool
+    requires { length marks.old ≡ 4096 }
+    ensures { Covering own.entry.list.labels.now own.entry.list.at (pair road.time.0 road.energy.0) (pair 0 0 ∷ []) marks.old marks.new result }
 {
-    cover_sum(labels, own, own_count, 0, arc_time, arc_energy, marks) < own_count
+    cover_sum(own, 0, road, marks).is_some()
 }
 
-// The time of a road and of entry j of the list at a byte together.
-fn sum_time(labels: &[u8], at: usize, arc_time: Seconds, j: usize) -> Seconds
-    requires list_fits { ListFits labels.now at }
-    requires j_bound { (j < count_at labels.now at) × (arc_time.0 ≤ 65535) }
-    ensures { result.0 ≡ arc_time.0 + time_at labels.now at j }
+// The sum of a road and entry j of a list.
+fn sum_at(list: StoredList<'_>, road: Pair, j: usize) -> Pair
+    requires { (j < count_at list.labels.now list.at) × (road.time.0 ≤ 65535) × (road.energy.0 ≤ 65535) }
+    ensures { (result.time.0 ≡ road.time.0 + time_at list.entry.labels.now list.entry.at j) × (result.energy.0 ≡ road.energy.0 + energy_at list.entry.labels.now list.entry.at j) }
 {
-    arc_time.plus(time_at(labels, at, j))
-}
-
-// Their energy together.
-fn sum_energy(labels: &[u8], at: usize, arc_energy: Energy, j: usize) -> Energy
-    requires list_fits { ListFits labels.now at }
-    requires j_bound { (j < count_at labels.now at) × (arc_energy.0 ≤ 65535) }
-    ensures { result.0 ≡ arc_energy.0 + energy_at labels.now at j }
-{
-    arc_energy.plus(energy_at(labels, at, j))
+    Pair {
+        time: road.time + list.time(j),
+        energy: road.energy + list.energy(j),
+    }
 }
 
 // Whether each sum of a road and an entry of the list at a byte is covered; own entries that a sum equals are marked. The sums'
 // energies rise, so neither place goes back, and an own entry no slower than the last sum covers all that follow.
-pub fn cover_stored(
-    labels: &[u8],
-    at: usize,
-    own: usize,
-    own_count: usize,
-    arc_time: Seconds,
-    arc_energy: Energy,
-    marks: &mut [u8; 4096],
-) -> bool
-    requires list_read { ListRead labels.now own own_count }
-    requires list_fits { ListFits labels.now at }
-    requires arc_time_bound { (arc_time.0 ≤ 65535) × (arc_energy.0 ≤ 65535) }
+pub fn cover_stored(at: usize, own: OwnList<'_>, road: Pair, marks: &mut [u8; 4096]) -> bool
+    requires list_fits { ListFits own.list.labels.now at }
+    requires road_bound { (road.time.0 ≤ 65535) × (road.energy.0 ≤ 65535) }
     requires marks_len { length marks.old ≡ 4096 }
-    ensures { Covering labels.now own (pair arc_time.0 arc_energy.0) (list_at labels.now at) marks.old marks.new result }
+    ensures { Covering own.entry.list.labels.now own.entry.list.at (pair road.time.0 road.energy.0) (list_at own.entry.list.labels.now at) marks.old marks.new result }
 {
-    let rest_count = count_at(labels, at) as usize;
+    let rest = StoredList {
+        labels: own.list.labels,
+        at,
+    };
+    let rest_count = rest.count();
     if rest_count == 0 {
         return true;
     }
-    let last_time = sum_time(labels, at, arc_time, rest_count - 1);
+    let last = sum_at(rest, road, rest_count - 1);
     let mut next = 0;
-    let mut j = 0;
-    while j < rest_count {
-        let time = sum_time(labels, at, arc_time, j);
-        let energy = sum_energy(labels, at, arc_energy, j);
-        let i = cover_sum(labels, own, own_count, next, time, energy, marks);
-        if i >= own_count {
+    for j in 0..rest_count {
+        let sum = sum_at(rest, road, j);
+        let Some(i) = cover_sum(own, next, sum, marks) else {
             return false;
-        }
-        if time_at(labels, own, i).at_most(last_time) {
+        };
+        if own.list.time(i) <= last.time {
             return true;
         }
         next = i + 1;
-        j += 1;
     }
     true
 }

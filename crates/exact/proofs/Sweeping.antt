@@ -6,11 +6,14 @@ use mathlib.Core.List.{List}
 use Prim.Native.Nat.{ℕ, suc, ◌+◌, ◌-◌, ◌≤◌, ◌<◌}
 use native.Mathlib.Decide.{ℕ_discrete}
 use native.Mathlib.Omega.{arith}
+use Rattle.std.specs.List.{slice_range}
+use Rattle.std.proofs.Common.{drop, length-drop}
+use Rattle.std.proofs.lemmas.List.{get_or-take, get_or-drop, length-take-le}
 use lib.ListN.{length, get_or, set, length-set}
 use lib.Seq.{get_or-set_same, get_or-set_other}
 use Rattle.paths.specs.Forest.{Above, Ancestor}
 use Rattle.paths.proofs.Forest.{ancestor-refl, ancestors_related, ancestor_of_parent, child-towards}
-use Rattle.tables.specs.working.Layout.{starts_from}
+use Rattle.tables.specs.working.Layout.{starts_from, order_from}
 use Rattle.network.specs.NetworkFile.{junctions_of}
 use Rattle.forest.specs.LabelFile.{parents_of, list_end}
 use Rattle.forest.specs.Forest.{depth_of}
@@ -59,34 +62,70 @@ module _ {labels : List ℕ} (formed : Formed labels) {tables : List ℕ} (numbe
     pub block_end : i + size ≤ junctions_of labels
     block_end = omega (arith, numbered.block_inside u swept_on_map, spot_is)
 
+    -- u itself stands first in its block
+    pub some : 0 < size
+    some = omega (arith, (numbered.in_block u u swept_on_map swept_on_map (inl refl)).1, size_is)
+
     -- the junctions right behind u are those below it
-    pub block_of : BlockOf labels tables u (i + 1) (i + size)
+    pub block_of : BlockOf labels u (slice_range tables (order_from + i + 1) (order_from + i + size))
     block_of =
         record {
-          places = numbered.places;
-          on_map = swept_on_map;
-          inside = block_end;
-          forward = omega (arith, (numbered.in_block u u swept_on_map swept_on_map (inl refl)).1, spot_is);
-          at_spot = numbered.at_spot;
-          spot_of_junction = λ j from to. numbered.spot_of_junction j (omega (arith, block_end));
-          below = λ j from to. proper j from to (related j from to);
+          below = λ k inside. rw (at k inside) (below (i + 1 + k) (omega arith) (omega (arith, long)));
           all =
               λ v above.
-              (omega (arith, spots_rise above, spot_is), omega (arith, (numbered.in_block u v swept_on_map (below_on_map labels above) (inr above)).1, spot_is));
+              let after : i < spot_of tables v = omega (arith, spots_rise above, spot_is) in
+              let before : spot_of tables v < i + size
+              = omega (arith, (numbered.in_block u v swept_on_map (below_on_map labels above) (inr above)).1, spot_is, size_is) in
+              let back : i + 1 + (spot_of tables v - (i + 1)) ≡ spot_of tables v = omega arith in
+              let inside : spot_of tables v - (i + 1) < length block = omega (arith, long) in (
+                spot_of tables v - (i + 1),
+                inside,
+                at (spot_of tables v - (i + 1)) inside ∙ ap (λ j. junction_at tables j) back ∙ numbered.at_spot v (below_on_map labels above),
+              );
+          once =
+              λ j k j_inside k_inside e.
+              omega (
+                arith,
+                long,
+                block_end,
+                ap (λ x. spot_of tables x) (sym (at j j_inside) ∙ e ∙ at k k_inside),
+                numbered.spot_of_junction (i + 1 + j) (omega (arith, long, block_end)),
+                numbered.spot_of_junction (i + 1 + k) (omega (arith, long, block_end)),
+              );
         }
       where
-        related : (j : ℕ) → i + 1 ≤ j → j < i + size → Ancestor (parents_of labels) u (junction_at tables j)
-        related j from to =
-            let on = numbered.on_map j (omega (arith, block_end)) in
-            let spot = numbered.spot_of_junction j (omega (arith, block_end)) in
-            numbered.block_below u (junction_at tables j) swept_on_map on (omega (arith, spot, spot_is)) (omega (arith, spot, spot_is))
+        block : List ℕ
+        block = slice_range tables (order_from + i + 1) (order_from + i + size)
 
-        proper : (j : ℕ) → i + 1 ≤ j → j < i + size → Ancestor (parents_of labels) u (junction_at tables j) → Above (parents_of labels) u (junction_at tables j)
-        proper j from to a =
+        long : length block + 1 ≡ size
+        long = omega (
+          arith,
+          some,
+          block_end,
+          formed.parents.few_junctions,
+          numbered.places,
+          length-take-le (order_from + i + size - (order_from + i + 1)) (drop (order_from + i + 1) tables) (
+              omega (arith, some, block_end, formed.parents.few_junctions, numbered.places, length-drop (order_from + i + 1) tables)
+              ),
+        )
+
+        at : (k : ℕ) → k < length block → get_or block k 0 ≡ junction_at tables (i + 1 + k)
+        at k inside =
+            get_or-take (order_from + i + size - (order_from + i + 1)) (drop (order_from + i + 1) tables) k 0 (omega (arith, long)) ∙
+            get_or-drop (order_from + i + 1) tables k 0 ∙ ap (λ j. get_or tables j 0) (omega arith)
+
+        below : (j : ℕ) → i + 1 ≤ j → j < i + size → Above (parents_of labels) u (junction_at tables j)
+        below j from to =
             ⊎_elim
-            (λ e. absurd (omega (arith, ap (λ x. spot_of tables x) e, spot_is, numbered.spot_of_junction j (omega (arith, block_end)))))
+            (λ e. absurd (omega (arith, ap (λ x. spot_of tables x) e, spot_is, spot)))
             (λ above. above)
-            a
+            (numbered.block_below u (junction_at tables j) swept_on_map (numbered.on_map j on_map) (omega (arith, spot, spot_is)) (omega (arith, spot, spot_is, size_is)))
+          where
+            on_map : j < junctions_of labels
+            on_map = omega (arith, block_end)
+
+            spot : spot_of tables (junction_at tables j) ≡ j
+            spot = numbered.spot_of_junction j on_map
 
     -- ---- Before its turn
 
@@ -113,8 +152,8 @@ module _ {labels : List ℕ} (formed : Formed labels) {tables : List ℕ} (numbe
           earlier p above-child = omega (arith, ancestor-spot (ancestor_of_parent child.hangs above-child), spot_is)
 
       -- with u's own lists noted, the places are those of the lists for u
-      pub noted-places : (start : ℕ) {after : List ℕ} → Noted labels u (set places u start) after → PlacesFor labels u after
-      noted-places start noted =
+      pub noted_places : (start : ℕ) {after : List ℕ} → Noted labels u (set places u start) after → PlacesFor labels u after
+      noted_places start noted =
           record {
             places_length = noted.one_length;
             below =
@@ -173,28 +212,30 @@ module _ {labels : List ℕ} (formed : Formed labels) {tables : List ℕ} (numbe
                 no_descendant up = omega (arith, spots_rise up, ancestor-spot a, spot_is)
 
       -- where no junction is below u, nothing but u's own place changes
-      pub swept_alone : StartsFilled labels tables → i + 1 ≡ i + size → Swept labels tables i (set places u (get_or tables (starts_from + u) 0))
-      swept_alone starts_filled none =
+      pub swept_alone :
+          {block : List ℕ} → StartsFilled labels tables → BlockOf labels u block → length block ≡ 0 →
+          Swept labels tables i (set places u (get_or tables (starts_from + u) 0))
+      swept_alone starts_filled block none =
           swept_more
           (get_or-set_same places u (get_or tables (starts_from + u) 0) 0 (omega (arith, swept_on_map, formed.parents.few_junctions, swept.places_length)) ∙ starts_filled.start u swept_on_map)
-          (λ v above. absurd (omega (arith, block_of.all v above)))
+          (λ v above. let (k, inside, is) = block.all v above in absurd (omega arith))
           (λ v on_map apart up. get_or-set_other places u v (get_or tables (starts_from + u) 0) 0 (λ e. apart (inl (sym e))))
           (length-set places u (get_or tables (starts_from + u) 0) ∙ swept.places_length)
 
       pub swept_moved :
           {noted after : List ℕ} → StartsFilled labels tables → Noted labels u (set places u (get_or tables (starts_from + u) 0)) noted →
-          MovedOn labels tables (i + 1) (i + size) noted after → Swept labels tables i after
+          MovedOn labels u noted after → Swept labels tables i after
       swept_moved {noted} {after} starts_filled noting moving =
           swept_more
-          (moving.unmoved u swept_on_map (λ from to. omega (arith, spot_is)) ∙
+          (moving.unmoved u (λ above. omega (arith, spots_rise above)) ∙
           noting.others u (λ up. omega (arith, spots_rise up)) ∙
           get_or-set_same places u (get_or tables (starts_from + u) 0) 0 (omega (arith, swept_on_map, formed.parents.few_junctions, swept.places_length)) ∙
           starts_filled.start u swept_on_map)
           (λ v above.
-          moving.moved v (below_on_map labels above) (block_of.all v above).0 (block_of.all v above).1 ∙
-          ap (list_end labels) ((noted-places (get_or tables (starts_from + u) 0) noting).below v (below_on_map labels above) above ∙ sym (waits_for above)))
+          moving.moved v above ∙
+          ap (list_end labels) ((noted_places (get_or tables (starts_from + u) 0) noting).below v (below_on_map labels above) above ∙ sym (waits_for above)))
           (λ v on_map apart up.
-          moving.unmoved v on_map (λ from to. apart (numbered.block_below u v swept_on_map on_map (omega (arith, spot_is)) (omega (arith, spot_is, size_is)))) ∙
+          moving.unmoved v (λ above. apart (inr above)) ∙
           noting.others v up ∙
           get_or-set_other places u v (get_or tables (starts_from + u) 0) 0 (λ e. apart (inl (sym e))))
           moving.one_length

@@ -22,7 +22,7 @@ use Rattle.stored.specs.working.Formed.{FilesFit}
 use Rattle.forest.proofs.Chains.{climbed}
 use Rattle.forest.proofs.Forest.{above_shallower, above_at, is_ancestor_sound, is_ancestor_complete, low_on_map, high_on_map, joined-related}
 use Rattle.hoplinks.specs.working.Meeting.{HopMarks}
-use Rattle.hoplinks.specs.working.Marking.{Cleared, OneMark, OnBranch, CrossingDepth, crosses, passes_by, RoadMark}
+use Rattle.hoplinks.specs.working.Marking.{OneMark, OnBranch, CrossingDepth, crosses, passes_by, RoadMark}
 use Rattle.hoplinks.proofs.Branches.{no_climb, no_deeper, shallower_ancestor, strictly-above, stays-above}
 
 -- ---- A road between two junctions
@@ -155,24 +155,6 @@ pub record Marking (net labels : List ℕ) (l : ℕ) (marks : List ℕ) (k : ℕ
   pub right : (j : ℕ) → j ≤ depth_of labels l → get_or marks j 0 ≡ 1 → WorkingSet (network_of net) (parents_of labels) l (ancestor_of labels l (depth_of labels l - j))
   pub all : {h end i : ℕ} {w : (weights energy).Figure} → i < k → Above (parents_of labels) h l → Ancestor (parents_of labels) l end → RoadArc net h end i w → get_or marks (depth_of labels h) 0 ≡ 1
 
--- one place more is cleared
-pub cleared_more : {marks : List ℕ} {k : ℕ} → Cleared marks k → k < 1024 → Cleared (set marks k 0) (k + 1)
-cleared_more {marks} {k} cleared h =
-    record { places = simp length-set cleared.places; each = λ j below. pick j below (ℕ_discrete j k) }
-  where
-    pick : (j : ℕ) → j < k + 1 → Dec (j ≡ k) → get_or (set marks k 0) j 0 ≡ 0
-    pick j below (yes e) = rw e (get_or-set_same marks k 0 0 (omega (arith, cleared.places)))
-    pick j below (no apart) = get_or-set_other marks k j 0 0 apart ∙ cleared.each j (omega arith)
-
--- the places below the last are clear, and the last is marked
-pub one_mark : {marks : List ℕ} {own k : ℕ} → Cleared marks k → own ≤ k → own < 1024 → OneMark (set marks own 1) own
-one_mark {marks} {own} {k} cleared all inside =
-    record {
-      places = simp length-set cleared.places;
-      others = λ j below. get_or-set_other marks own j 1 0 (λ e. omega arith) ∙ cleared.each j (omega arith);
-      last = get_or-set_same marks own 1 0 (omega (arith, cleared.places));
-    }
-
 -- no road yet: l alone
 pub marking-start : {net labels marks : List ℕ} {l own : ℕ} → own ≡ depth_of labels l → OneMark marks own → Marking net labels l marks 0
 marking-start {net} {labels} {marks} {l} {own} is one =
@@ -200,8 +182,15 @@ module _ {net labels : List ℕ} (fit : ParentsFit labels) {l : ℕ} (l-below : 
   mark_inside mark = omega (arith, mark.up, fit.ends l l-below, fit.few_junctions)
 
   -- one road more
-  pub marking-more : {marks : List ℕ} {k r at : ℕ} → Marking net labels l marks k → RoadMark net labels l k r → at ≡ r → Marking net labels l (set marks at 1) (k + 1)
-  marking-more {marks} {k} {r} {at} now mark is = rw is more
+  pub marking-more : {marks : List ℕ} {k r : ℕ} → Marking net labels l marks k → RoadMark net labels l k r → Marking net labels l (set marks r 1) (k + 1)
+  marking-more {marks} {k} {r} now mark =
+      record {
+        places = simp length-set now.places;
+        own = mark_stays marks r (depth_of labels l) inside now.own;
+        small = λ j h. small j h (ℕ_discrete j r);
+        right = λ j h e. right j h e (ℕ_discrete j r);
+        all = λ {h} {end} {i} {w} below p q arc. all below p q arc (ℕ_discrete i k);
+      }
     where
       inside : r < length marks
       inside = omega (arith, mark_inside mark, now.places)
@@ -217,16 +206,6 @@ module _ {net labels : List ℕ} (fit : ParentsFit labels) {l : ℕ} (l-below : 
       all : {h end i : ℕ} {w : (weights energy).Figure} → i < k + 1 → Above (parents_of labels) h l → Ancestor (parents_of labels) l end → RoadArc net h end i w → Dec (i ≡ k) → get_or (set marks r 1) (depth_of labels h) 0 ≡ 1
       all below p q arc (yes same) = rw (← mark.all p q (rw same at arc)) (get_or-set_same marks r 1 0 inside)
       all {h} below p q arc (no apart) = mark_stays marks r (depth_of labels h) inside (now.all (omega arith) p q arc)
-
-      more : Marking net labels l (set marks r 1) (k + 1)
-      more =
-          record {
-            places = simp length-set now.places;
-            own = mark_stays marks r (depth_of labels l) inside now.own;
-            small = λ j h. small j h (ℕ_discrete j r);
-            right = λ j h e. right j h e (ℕ_discrete j r);
-            all = λ {h} {end} {i} {w} below p q arc. all below p q arc (ℕ_discrete i k);
-          }
 
   -- all roads
   pub marking_end : {marks : List ℕ} {k : ℕ} → Marking net labels l marks k → roads_of net ≤ k → HopMarks net labels l marks

@@ -10,22 +10,12 @@ use forest::parents::is_ancestor;
 use network::header::roads_of;
 use network::roads::{road_high, road_low};
 
-fn wide(x: u32) -> usize
-    ensures { result ≡ x }
-{
-    x as usize
-}
-
 // Of the places up to `own`, marks the last alone.
 fn mark_itself(own: usize, marks: &mut [u8; 1024])
     requires { (own < 1024) × (length marks.old ≡ 1024) }
     ensures { OneMark marks.new own }
 {
-    let mut k: usize = 0;
-    while k < own {
-        marks[k] = 0;
-        k += 1;
-    }
+    marks[..own].fill(0);
     marks[own] = 1;
 }
 
@@ -36,16 +26,11 @@ fn crossing_depth(labels: &[u8], depths: &[u32; 1024], l: usize, upper: usize, l
 {
     let own = depths[l];
     let above = depths[upper];
-    if own <= above {
-        return own;
+    if above < own && own <= depths[lower] && is_ancestor(labels, depths, l, lower) {
+        above
+    } else {
+        own
     }
-    if depths[lower] < own {
-        return own;
-    }
-    if is_ancestor(labels, depths, l, lower) {
-        return above;
-    }
-    own
 }
 
 // The depth that road k marks: of the hoplink above l that it joins to l or below, or else of l.
@@ -56,9 +41,10 @@ fn road_mark(net: &[u8], labels: &[u8], depths: &[u32; 1024], l: usize, k: usize
     let low = road_low(net, k);
     let high = road_high(net, k);
     if depths[low] < depths[high] {
-        return crossing_depth(labels, depths, l, low, high);
+        crossing_depth(labels, depths, l, low, high)
+    } else {
+        crossing_depth(labels, depths, l, high, low)
     }
-    crossing_depth(labels, depths, l, high, low)
 }
 
 // Marks, by depth, the ancestors of l that have a road to l or below it, and l itself: one pass over the roads.
@@ -72,12 +58,8 @@ pub fn mark_hoplinks(
     requires { FilesFit net.now labels.now × DepthsFilled labels.now depths.now × (l < junctions_of labels.now) × (length marks.old ≡ 1024) }
     ensures { HopMarks net.now labels.now l marks.new }
 {
-    mark_itself(wide(depths[l]), marks);
-    let roads = wide(roads_of(net));
-    let mut k: usize = 0;
-    while k < roads {
-        let at = wide(road_mark(net, labels, depths, l, k));
-        marks[at] = 1;
-        k += 1;
+    mark_itself(depths[l] as usize, marks);
+    for k in 0..roads_of(net) as usize {
+        marks[road_mark(net, labels, depths, l, k) as usize] = 1;
     }
 }

@@ -1,13 +1,12 @@
 -- One stored list against sums: what covers a sum, what equals it, and what is marked.
 -- In this order: marks; one entry; one sum; all sums of a road.
-use Rattle.std.specs.Prelude.{◌≡◌, ◌⊎◌, Bool, true, false, ℕ, ◌-◌, ◌≤◌, ◌<◌, length, get_or}
+use Rattle.std.specs.Prelude.{◌≡◌, ◌⊎◌, Bool, true, false, Option, Some, None, ℕ, ◌-◌, ◌≤◌, ◌<◌, length, get_or}
 use mathlib.Core.List.{List, Memᴰ}
 use Rattle.paths.specs.Weights.{weights, energy, pair, Covered}
 use Rattle.lists.specs.Entries.{Weight}
 use Rattle.refusals.specs.working.Decides.{Decides}
 use Rattle.forest.specs.LabelFile.{count_at, time_at, energy_at}
 use Rattle.stored.specs.Stored.{list_at}
-use Rattle.stored.specs.working.Formed.{ListFits}
 
 -- ---- Marks
 
@@ -18,11 +17,6 @@ pub record Marking (P : ℕ → Type 0) (marks marks_after : List ℕ) : Type 0 
   pub only : (i : ℕ) → (get_or marks_after i 0 ≡ get_or marks i 0) ⊎ P i
 
 -- ---- One entry
-
--- The list at a byte fits and has so many entries
-pub record ListRead (labels : List ℕ) (at count : ℕ) : Type 0 where
-  pub fits : ListFits labels at
-  pub counted : count ≡ count_at labels at
 
 -- Entry j of the list at a byte
 abbrev pub entry_of : List ℕ → ℕ → ℕ → Weight
@@ -46,24 +40,32 @@ pub record EntryCompared (labels : List ℕ) (own : ℕ) (sum : Weight) (i : ℕ
 
 -- ---- One sum
 
--- r is the first entry from the hint on that is no slower than a time; the count if there is none
-pub record QuickFrom (labels : List ℕ) (own time hint r : ℕ) : Type 0 where
-  pub from : hint ≤ r
-  pub in_list : r ≤ count_at labels own
-  pub slow : (i : ℕ) → hint ≤ i → i < r → time < time_at labels own i
-  pub quick : r < count_at labels own → time_at labels own r ≤ time
+-- i is the first entry from the hint on that is no slower than a time
+pub record QuickAt (labels : List ℕ) (own time hint i : ℕ) : Type 0 where
+  pub from : hint ≤ i
+  pub in_list : i < count_at labels own
+  pub slow : (k : ℕ) → hint ≤ k → k < i → time < time_at labels own k
+  pub quick : time_at labels own i ≤ time
+
+-- That entry, or none where all from the hint on are slower
+abbrev pub QuickFrom : List ℕ → ℕ → ℕ → ℕ → Option ℕ → Type 0
+QuickFrom labels own time hint (Some i) = QuickAt labels own time hint i
+QuickFrom labels own time hint None = (i : ℕ) → hint ≤ i → i < count_at labels own → time < time_at labels own i
 
 -- The entry before `next`, if there is one, takes no more than this
 pub record Behind (labels : List ℕ) (own next most : ℕ) : Type 0 where
   pub in_list : next ≤ count_at labels own
   pub cheap : 0 < next → energy_at labels own (next - 1) ≤ most
 
--- r is an entry that covers the sum, or the count if none does. If one does, what equals the sum is marked.
-pub record SumCompared (labels : List ℕ) (own : ℕ) (sum : Weight) (marks marks_after : List ℕ) (r : ℕ) : Type 0 where
-  pub in_list : r ≤ count_at labels own
-  pub covers : r < count_at labels own → CoversAt labels own sum r
-  pub none : r ≡ count_at labels own → (i : ℕ) → CoversAt labels own sum i → ⊥
-  pub marking : r < count_at labels own → Marking (EqualsAt labels own sum) marks marks_after
+-- Entry i covers the sum, and what equals the sum is marked
+pub record CoveredBy (labels : List ℕ) (own : ℕ) (sum : Weight) (marks marks_after : List ℕ) (i : ℕ) : Type 0 where
+  pub covers : CoversAt labels own sum i
+  pub marking : Marking (EqualsAt labels own sum) marks marks_after
+
+-- An entry that covers the sum, or none where none does
+abbrev pub SumCompared : List ℕ → ℕ → Weight → List ℕ → List ℕ → Option ℕ → Type 0
+SumCompared labels own sum marks marks_after (Some i) = CoveredBy labels own sum marks marks_after i
+SumCompared labels own sum marks marks_after None = (i : ℕ) → CoversAt labels own sum i → ⊥
 
 -- ---- All sums of a road
 

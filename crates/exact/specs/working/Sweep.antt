@@ -3,12 +3,11 @@
 use Rattle.std.specs.Prelude.{◌≡◌, List, ℕ, ◌+◌, ◌-◌, ◌≤◌, ◌<◌, length, get_or}
 use Rattle.paths.specs.Forest.{Above, Ancestor}
 use Rattle.paths.specs.LocalTest.{ListAgrees}
-use Rattle.tables.specs.working.Layout.{table_places}
 use Rattle.network.specs.NetworkFile.{network_of, junctions_of}
 use Rattle.forest.specs.LabelFile.{parents_of, list_end}
 use Rattle.forest.specs.Forest.{depth_of}
 use Rattle.stored.specs.Stored.{lists_before, place_of, list_place, stored}
-use Rattle.preorder.specs.working.Numbered.{junction_at, spot_of}
+use Rattle.preorder.specs.working.Numbered.{spot_of}
 
 -- ---- What is tested
 
@@ -37,23 +36,16 @@ pub record Noted (labels : List ℕ) (u : ℕ) (before after : List ℕ) : Type 
   pub above : (w : ℕ) → Above (parents_of labels) w u → get_or after w 0 ≡ list_place labels u w
   pub others : (w : ℕ) → (Above (parents_of labels) w u → ⊥) → get_or after w 0 ≡ get_or before w 0
 
--- The reading places of the junctions from spot `from` to below `to` have moved on by one list, no other has
-pub record MovedOn (labels tables : List ℕ) (from to : ℕ) (before after : List ℕ) : Type 0 where
+-- The reading places of the junctions below u have moved on by one list, no other has
+pub record MovedOn (labels : List ℕ) (u : ℕ) (before after : List ℕ) : Type 0 where
   pub one_length : length after ≡ 1024
-  pub moved :
-      (v : ℕ) → v < junctions_of labels → from ≤ spot_of tables v → spot_of tables v < to → get_or after v 0 ≡ list_end labels (get_or before v 0)
-  pub unmoved :
-      (v : ℕ) → v < junctions_of labels → (from ≤ spot_of tables v → spot_of tables v < to → ⊥) → get_or after v 0 ≡ get_or before v 0
+  pub moved : (v : ℕ) → Above (parents_of labels) u v → get_or after v 0 ≡ list_end labels (get_or before v 0)
+  pub unmoved : (v : ℕ) → (Above (parents_of labels) u v → ⊥) → get_or after v 0 ≡ get_or before v 0
 
 -- ---- What the functions of the sweep stand on
 
--- The junctions from spot `from` to below `to` are those below u
-pub record BlockOf (labels tables : List ℕ) (u from to : ℕ) : Type 0 where
-  pub places : length tables ≡ table_places
-  pub on_map : u < junctions_of labels
-  pub inside : to ≤ junctions_of labels
-  pub forward : from ≤ to
-  pub at_spot : (v : ℕ) → v < junctions_of labels → junction_at tables (spot_of tables v) ≡ v
-  pub spot_of_junction : (i : ℕ) → from ≤ i → i < to → spot_of tables (junction_at tables i) ≡ i
-  pub below : (i : ℕ) → from ≤ i → i < to → Above (parents_of labels) u (junction_at tables i)
-  pub all : (v : ℕ) → Above (parents_of labels) u v → (from ≤ spot_of tables v) × (spot_of tables v < to)
+-- The junctions below u, each once
+pub record BlockOf (labels : List ℕ) (u : ℕ) (block : List ℕ) : Type 0 where
+  pub below : (k : ℕ) → k < length block → Above (parents_of labels) u (get_or block k 0)
+  pub all : (v : ℕ) → Above (parents_of labels) u v → (k : ℕ) × (k < length block) × (get_or block k 0 ≡ v)
+  pub once : (j k : ℕ) → j < length block → k < length block → get_or block j 0 ≡ get_or block k 0 → j ≡ k

@@ -6,11 +6,6 @@ use Rattle.network.specs.NetworkFile.{junctions_of, RoadArc, network_of}
 use Rattle.forest.specs.LabelFile.{parents_of}
 use Rattle.forest.specs.Forest.{depth_of, ancestor_of}
 
--- The places below k are not marked
-pub record Cleared (marks : List ℕ) (k : ℕ) : Type 0 where
-  pub places : length marks ≡ 1024
-  pub each : (j : ℕ) → j < k → get_or marks j 0 ≡ 0
-
 -- Of the places up to `own` the last alone is marked
 pub record OneMark (marks : List ℕ) (own : ℕ) : Type 0 where
   pub places : length marks ≡ 1024

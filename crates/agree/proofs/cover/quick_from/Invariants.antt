@@ -1,10 +1,7 @@
--- `agree::cover::quick_from` is right: the entries from the hint up to i are slower, and the first that is not, or the end, stops it.
-use Prim.Native.Nat.{◌-◌}
-use Rattle.agree.proofs.CoverSteps.{Slower}
+-- `agree::cover::quick_from` is right: the entries from the hint up to i are slower.
+use Prim.Native.Nat.{ℕ, ◌≤◌, ◌<◌}
+use Rattle.forest.specs.LabelFile.{time_at}
 use Rattle.agree.proofs.cover.quick_from.Given as goal
 
 abbrev pub invariant-loop-i : goal.invariant-loop-i
-invariant-loop-i l = Slower l.labels l.own l.time.0 l.hint l.i
-
-abbrev pub decreases-loop-i : goal.decreases-loop-i
-decreases-loop-i l = l.own_count - l.i
+invariant-loop-i l = (k : ℕ) → l.hint ≤ k → k < l.i → l.time.0 < time_at l.own.list.labels.now l.own.list.at k

@@ -1,11 +1,7 @@
--- The lists before spot i agree; one that does not ends it.
-use Prim.Native.Nat.{◌-◌}
+-- The lists of the junctions so far agree; one that does not ends it.
 use Rattle.agree.specs.working.Agreeing.{Unmarked}
 use Rattle.exact.proofs.Verdicts.{AgreedTo}
 use Rattle.exact.proofs.sweep.lists_agree.Given as goal
 
-abbrev pub invariant-loop-i : goal.invariant-loop-i
-invariant-loop-i l = AgreedTo l.net l.labels l.tables l.u l.from l.i × Unmarked l.marks
-
-abbrev pub decreases-loop-i : goal.decreases-loop-i
-decreases-loop-i l = l.to - l.i
+abbrev pub invariant-loop-v : goal.invariant-loop-v
+invariant-loop-v l = AgreedTo l.set.net.now l.set.labels.now l.below l.u l.v-index × Unmarked l.marks

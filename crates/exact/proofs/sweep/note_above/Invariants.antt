@@ -2,8 +2,5 @@
 use Rattle.exact.proofs.Noting.{Noting}
 use Rattle.exact.proofs.sweep.note_above.Given as goal
 
-abbrev pub invariant-loop-k : goal.invariant-loop-k
-invariant-loop-k l = Noting l.labels l.u l.k l.w l.place.at l.initial.places l.places
-
-abbrev pub decreases-loop-k : goal.decreases-loop-k
-decreases-loop-k l = l.k
+abbrev pub invariant-loop : goal.invariant-loop
+invariant-loop l = Noting l.set.labels.now l.u l.counter l.end l.w l.place.at l.initial.places l.places

@@ -1,10 +1,6 @@
 -- The loop has marked what the roads below k put into the working set of l; before the first road that is l alone.
-use Prim.Native.Nat.{◌-◌}
 use Rattle.hoplinks.proofs.Marks.{Marking}
 use Rattle.hoplinks.proofs.hoplinks.mark_hoplinks.Given as goal
 
 abbrev pub invariant-loop-k : goal.invariant-loop-k
 invariant-loop-k l = Marking l.net l.labels l.l l.marks l.k
-
-abbrev pub decreases-loop-k : goal.decreases-loop-k
-decreases-loop-k l = l.roads - l.k

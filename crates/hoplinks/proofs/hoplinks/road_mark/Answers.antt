@@ -16,8 +16,8 @@ crossing_depth-requires c = (c.requires.0.formed.parents, c.requires.1, c.requir
 pub returns-then-depths-low : goal.returns-then-depths-low
 returns-then-depths-low c = low_marks c.requires.0 c.requires.1 c.requires.3 c.road_low-low.ensures c.road_high-high.ensures c.if-depths-low.true c.crossing_depth.ensures
 
-pub crossing_depth-requires-2 : goal.crossing_depth-requires-2
-crossing_depth-requires-2 c = (c.requires.0.formed.parents, c.requires.1, c.requires.2, high-branch c.requires.0 c.requires.1 c.requires.3 c.road_low-low.ensures c.road_high-high.ensures c.if-depths-low.false)
+pub crossing_depth-requires-else-depths-low : goal.crossing_depth-requires-else-depths-low
+crossing_depth-requires-else-depths-low c = (c.requires.0.formed.parents, c.requires.1, c.requires.2, high-branch c.requires.0 c.requires.1 c.requires.3 c.road_low-low.ensures c.road_high-high.ensures c.if-depths-low.false)
 
-pub returns : goal.returns
-returns c = high_marks c.requires.0 c.requires.1 c.requires.3 c.road_low-low.ensures c.road_high-high.ensures c.if-depths-low.false c.crossing_depth-2.ensures
+pub returns-else-depths-low : goal.returns-else-depths-low
+returns-else-depths-low c = high_marks c.requires.0 c.requires.1 c.requires.3 c.road_low-low.ensures c.road_high-high.ensures c.if-depths-low.false c.crossing_depth-else-depths-low.ensures
