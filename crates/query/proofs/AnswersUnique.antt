@@ -1,7 +1,8 @@
--- A query has one answer: two that meet the definition are equal in number, time and energy, and so are two values of the enum.
-use mathlib.Core.Path.{◌≡◌, refl, sym, ap, ap₂, ◌∙◌}
+-- A query has one answer: two that meet the definition are equal in number, time and energy, and so are two values of the code.
+use mathlib.Core.Path.{◌≡◌, refl, sym, ap, ◌∙◌}
 use mathlib.Core.Logic.{◌⊎◌, ⊎_elim}
 use mathlib.Core.List.{List}
+use Rattle.std.specs.Prelude.{Result, Ok, Err}
 use Prim.Native.Nat.{ℕ, ◌≤◌, ◌<◌}
 use native.Mathlib.Omega.{arith}
 use Rattle.paths.specs.Weights.{energy, time, spent}
@@ -11,8 +12,10 @@ use Rattle.paths.proofs.Unique.{best_unique}
 use Rattle.paths.specs.declared.seconds.Seconds.{Seconds}
 use Rattle.paths.specs.declared.energy.Energy.{Energy}
 use Rattle.network.specs.NetworkFile.{junctions_of}
-use Rattle.query.specs.declared.Answer.{Answer}
-use Rattle.query.specs.declared.Answer.TheVariants as case
+use Rattle.paths.specs.declared.pair.Pair.{Pair}
+use Rattle.query.specs.declared.NoAnswer.{NoAnswer}
+use Rattle.query.specs.declared.NoAnswer.TheVariants as case
+use Rattle.query.specs.NoAnswers.{number_without}
 use Rattle.query.specs.working.AnswerValues.{number_of, time_of, energy_of}
 use Rattle.query.specs.Answers.{Answers, off_map, not_connected, over_limit, found}
 
@@ -56,7 +59,7 @@ module _ (net : List ℕ) (s t C : ℕ) where
       let one = best_unique number_lawful best best' in
       record { number_is = e ∙ sym e'; time_is = ap (time energy) one; energy_is = ap (spent energy) one }
 
--- ---- The enum
+-- ---- The values
 
 -- a time and an energy are one number each
 one_time : {a b : Seconds} → a.0 ≡ b.0 → a ≡ b
@@ -65,28 +68,35 @@ one_time e = λ i. record { 0 = e i }
 one_energy : {a b : Energy} → a.0 ≡ b.0 → a ≡ b
 one_energy e = λ i. record { 0 = e i }
 
+one_pair : {p p' : Pair} → p.time ≡ p'.time → p.energy ≡ p'.energy → p ≡ p'
+one_pair e f = λ i. record { time = e i; energy = f i }
+
+-- each number has one reason
+one_number : (why why' : NoAnswer) → number_without why ≡ number_without why' → why ≡ why'
+one_number case.OffMap case.OffMap e = refl
+one_number case.OffMap case.NotConnected e = absurd (omega arith)
+one_number case.OffMap case.OverLimit e = absurd (omega arith)
+one_number case.NotConnected case.OffMap e = absurd (omega arith)
+one_number case.NotConnected case.NotConnected e = refl
+one_number case.NotConnected case.OverLimit e = absurd (omega arith)
+one_number case.OverLimit case.OffMap e = absurd (omega arith)
+one_number case.OverLimit case.NotConnected e = absurd (omega arith)
+one_number case.OverLimit case.OverLimit e = refl
+
 -- so the number, the time and the energy are the whole of an answer
-values-whole : (r r' : Answer) → SameAnswer (number_of r) (time_of r) (energy_of r) (number_of r') (time_of r') (energy_of r') → r ≡ r'
-values-whole (case.Found t e) (case.Found t' e') same = ap₂ case.Found (one_time same.time_is) (one_energy same.energy_is)
-values-whole (case.Found t e) case.OffMap same = absurd (omega (arith, same.number_is))
-values-whole (case.Found t e) case.NotConnected same = absurd (omega (arith, same.number_is))
-values-whole (case.Found t e) case.OverLimit same = absurd (omega (arith, same.number_is))
-values-whole case.OffMap (case.Found t e) same = absurd (omega (arith, same.number_is))
-values-whole case.OffMap case.OffMap same = refl
-values-whole case.OffMap case.NotConnected same = absurd (omega (arith, same.number_is))
-values-whole case.OffMap case.OverLimit same = absurd (omega (arith, same.number_is))
-values-whole case.NotConnected (case.Found t e) same = absurd (omega (arith, same.number_is))
-values-whole case.NotConnected case.OffMap same = absurd (omega (arith, same.number_is))
-values-whole case.NotConnected case.NotConnected same = refl
-values-whole case.NotConnected case.OverLimit same = absurd (omega (arith, same.number_is))
-values-whole case.OverLimit (case.Found t e) same = absurd (omega (arith, same.number_is))
-values-whole case.OverLimit case.OffMap same = absurd (omega (arith, same.number_is))
-values-whole case.OverLimit case.NotConnected same = absurd (omega (arith, same.number_is))
-values-whole case.OverLimit case.OverLimit same = refl
+values-whole : (r r' : Result Pair NoAnswer) → SameAnswer (number_of r) (time_of r) (energy_of r) (number_of r') (time_of r') (energy_of r') → r ≡ r'
+values-whole (Ok p) (Ok p') same = ap Ok (one_pair (one_time same.time_is) (one_energy same.energy_is))
+values-whole (Ok p) (Err case.OffMap) same = absurd (omega (arith, same.number_is))
+values-whole (Ok p) (Err case.NotConnected) same = absurd (omega (arith, same.number_is))
+values-whole (Ok p) (Err case.OverLimit) same = absurd (omega (arith, same.number_is))
+values-whole (Err case.OffMap) (Ok p') same = absurd (omega (arith, same.number_is))
+values-whole (Err case.NotConnected) (Ok p') same = absurd (omega (arith, same.number_is))
+values-whole (Err case.OverLimit) (Ok p') same = absurd (omega (arith, same.number_is))
+values-whole (Err why) (Err why') same = ap Err (one_number why why' same.number_is)
 
 -- two values that meet the definition are one
 pub answer_unique :
-    (net : List ℕ) (s t C : ℕ) (r r' : Answer) →
+    (net : List ℕ) (s t C : ℕ) (r r' : Result Pair NoAnswer) →
     Answers net s t C (number_of r) (time_of r) (energy_of r) →
     Answers net s t C (number_of r') (time_of r') (energy_of r') →
     r ≡ r'

@@ -3,6 +3,8 @@
 use mathlib.Core.Path.{◌≡◌, refl, sym, ap, ap₂, ◌∙◌, subst}
 use mathlib.Core.Logic.{inl, inr, ⊎_elim}
 use mathlib.Core.List.{List}
+use Rattle.std.specs.Prelude.{Result}
+use Rattle.paths.specs.declared.pair.Pair.{Pair}
 use Prim.Native.Nat.{ℕ, suc, ◌+◌, ◌-◌, ◌≤◌, ◌<◌}
 use native.Mathlib.Omega.{arith}
 use Rattle.paths.specs.Weights.{weights, energy}
@@ -33,7 +35,7 @@ use Rattle.forest.proofs.Chains.{climbed}
 use Rattle.forest.proofs.Forest.{AncestorAt, ancestor_at, ancestor_is_up, above_shallower}
 use Rattle.stored.proofs.Passed.{below_on_map, stored-fits, roads_two_way, parents-forest, roads_joined}
 use Rattle.hoplinks.specs.working.Meeting.{MeetsAt, HopMarks}
-use Rattle.query.specs.declared.Answer.{Answer}
+use Rattle.query.specs.declared.NoAnswer.{NoAnswer}
 use Rattle.query.specs.declared.Between.{Between}
 use Rattle.query.specs.declared.Between.TheVariants.{Nothing, List as OneList, Lists as TwoLists}
 use Rattle.query.specs.working.Prepared.{Prepared}
@@ -62,7 +64,7 @@ pub record StandsFor (net : List ℕ) (x y : ℕ) (Has : Weight → Type 0) : Ty
 
 -- what such a set answers is the answer
 pub stands_answer :
-    {net : List ℕ} {x y C : ℕ} {Has : Weight → Type 0} {r : Answer} →
+    {net : List ℕ} {x y C : ℕ} {Has : Weight → Type 0} {r : Result Pair NoAnswer} →
     StandsFor net x y Has → x < junctions_of net → y < junctions_of net → AnswerFrom Has C r →
     Answers net x y C (number_of r) (time_of r) (energy_of r)
 stands_answer stands h k (found e best) =
@@ -392,7 +394,7 @@ module _ {net labels depths tables : List ℕ} (prepared : Prepared net labels d
   answer_apart none =
       whole.not_connected x_on_net y_on_net (apart-without-common (parents_of labels) (roads_joined prepared.beside) (parents-forest prepared.beside) none) refl refl refl
 
-  module _ {C : ℕ} {r : Answer} where
+  module _ {C : ℕ} {r : Result Pair NoAnswer} where
     -- a junction and one above it, either way round
     pub answer_list : {at : ℕ} → ListBetween labels x y at → AnswerFrom (EntryOf (list_at labels at)) C r → Answers net x y C (number_of r) (time_of r) (energy_of r)
     answer_list one answer = stands_answer (trade_off_stands (list-between-right prepared one)) x_on_net y_on_net answer

@@ -6,40 +6,23 @@ ghost use Rattle.tables.specs.working.Layout.{table_places};
 ghost use Rattle.network.specs.NetworkFile.{junctions_of};
 ghost use Rattle.forest.specs.Forest.{depth_of};
 ghost use Rattle.forest.specs.working.Fits.{DepthsFilled};
-ghost use Rattle.preorder.specs.working.Numbered.{size_of};
 ghost use Rattle.stored.specs.working.Formed.{Formed, StartsFilled};
 ghost use Rattle.stored.specs.working.Scanned.{FoundList};
-ghost use Rattle.query.specs.working.Blocks.{far_spots, BehindBy, InBlock};
+ghost use Rattle.query.specs.working.Blocks.{InBlock};
 
 use crate::passing::pass_lists;
 use stored::place::number_of;
 use tables::{SIZES, SPOTS, STARTS, entry_at};
 
-// More spots than any block has.
-const FAR: usize = 1024;
-
-// How many spots v stands behind u; FAR where it stands before.
-fn behind_by(tables: &[u32; 13312], u: usize, v: usize) -> usize
-    requires tables_len { length tables.now ≡ table_places }
-    requires u_bound { (u < 1024) × (v < 1024) }
-    ensures { BehindBy tables.now u v result }
-{
-    let start = entry_at(tables, SPOTS + u);
-    let spot = entry_at(tables, SPOTS + v);
-    if spot < start {
-        return FAR;
-    }
-    spot - start
-}
-
 // Whether v stands in the block of u.
 pub fn in_block(tables: &[u32; 13312], u: usize, v: usize) -> bool
     requires tables_len { length tables.now ≡ table_places }
     requires u_bound { (u < 1024) × (v < 1024) }
-    requires u_bound_2 { size_of tables.now u ≤ far_spots }
     ensures { Decides (InBlock tables.now u v) result }
 {
-    behind_by(tables, u, v) < entry_at(tables, SIZES + u)
+    let start = entry_at(tables, SPOTS + u);
+    let spot = entry_at(tables, SPOTS + v);
+    start <= spot && spot - start < entry_at(tables, SIZES + u)
 }
 
 // The byte of v's list for u, which stands above it: as many lists behind v's first as there are junctions between.

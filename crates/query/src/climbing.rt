@@ -28,13 +28,10 @@ fn step(labels: &[u8], below: Climb) -> Climb
     requires labels_len_bound { length labels.now ≤ most_bytes }
     ensures { Steps labels.now below result }
 {
-    let up = below.up;
-    let place = Place { at: below.at };
-    let next = place.next(labels);
     Climb {
         from: below.from,
-        up: parent_at(labels, up) as usize,
-        at: next.at,
+        up: parent_at(labels, below.up) as usize,
+        at: Place { at: below.at }.next(labels).at,
     }
 }
 
@@ -49,10 +46,8 @@ fn climb_of(labels: &[u8], tables: &[u32; 13312], v: usize, steps: u32) -> Climb
         up: v,
         at: entry_at(tables, STARTS + v),
     };
-    let mut done: u32 = 0;
-    while done < steps {
+    for _ in 0..steps {
         here = step(labels, here);
-        done += 1;
     }
     here
 }
@@ -65,16 +60,19 @@ fn meet(labels: &[u8], depth: u32, near: Climb, far: Climb) -> Between
 {
     let mut left = near;
     let mut right = far;
-    let mut levels = depth;
-    while levels > 0 {
+    for level in (0..depth).rev() {
         let above_left = step(labels, left);
         let above_right = step(labels, right);
         if above_left.up == above_right.up {
-            return Between::Lists(left.at, right.at, levels, above_left.up);
+            return Between::Lists {
+                near: left.at,
+                far: right.at,
+                levels: level + 1,
+                meeting: above_left.up,
+            };
         }
         left = above_left;
         right = above_right;
-        levels -= 1;
     }
     Between::Nothing
 }

@@ -1,25 +1,26 @@
 // The answer of one stored list: its last entry within the limit, since time falls as energy rises.
 ghost use Rattle.stored.specs.Stored.{list_at};
-ghost use Rattle.stored.specs.working.Formed.{ListFits};
 ghost use Rattle.query.specs.working.AnswerFrom.{EntryOf, AnswerFrom};
 
-use crate::Answer;
-use crate::places::{count_at, fitting};
+use crate::NoAnswer;
+use crate::places::fitting;
 use paths::energy::Energy;
-use stored::stored::{energy_at, time_at};
+use paths::pair::Pair;
+use stored::list::StoredList;
 
-// The answer of the list at a byte.
-pub fn from_list(labels: &[u8], at: usize, limit: Energy) -> Answer
-    requires { ListFits labels.now at }
-    ensures { AnswerFrom (EntryOf (list_at labels.now at)) limit.0 result }
+// The answer of a list.
+pub fn from_list(list: StoredList<'_>, limit: Energy) -> Result<Pair, NoAnswer>
+    ensures { AnswerFrom (EntryOf (list_at list.entry.labels.now list.entry.at)) limit.0 result }
 {
-    if count_at(labels, at) == 0 {
-        return Answer::NotConnected;
+    if list.count() == 0 {
+        return Err(NoAnswer::NotConnected);
     }
-    let count = fitting(labels, at, Energy(0), limit);
+    let count = fitting(list, Energy(0), limit);
     if count == 0 {
-        return Answer::OverLimit;
+        return Err(NoAnswer::OverLimit);
     }
-    let last = count - 1;
-    Answer::Found(time_at(labels, at, last), energy_at(labels, at, last))
+    Ok(Pair {
+        time: list.time(count - 1),
+        energy: list.energy(count - 1),
+    })
 }

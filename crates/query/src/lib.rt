@@ -2,23 +2,28 @@
 // an accepted set, so that ten thousand queries cost one check.
 #![tactic(auto)]
 
-use paths::energy::Energy;
-use paths::seconds::Seconds;
+ghost use Rattle.std.specs.Prelude.{◌≡◌};
+ghost use Rattle.query.specs.NoAnswers.{number_without};
 
-// The answer to a limited query: the best pair, or why there is none.
-#[derive(Clone, Copy)]
-pub enum Answer {
-    Found(Seconds, Energy),
+// Why a limited query has no best pair.
+#[derive(Clone, Copy, PartialEq, Eq)]
+pub enum NoAnswer {
     OffMap,
     NotConnected,
     OverLimit,
 }
 
-// A time beside an energy: the pair of a path.
-#[derive(Clone, Copy)]
-pub struct Pair {
-    pub time: Seconds,
-    pub energy: Energy,
+impl NoAnswer {
+    // The number that callers know it by.
+    pub fn number(self) -> u32
+        ensures { result ≡ number_without self }
+    {
+        match self {
+            NoAnswer::OffMap => 21,
+            NoAnswer::NotConnected => 22,
+            NoAnswer::OverLimit => 23,
+        }
+    }
 }
 
 // The lists that tell of the paths between two junctions: none; that of one junction for the other above it, at a byte; or those of
@@ -27,7 +32,12 @@ pub struct Pair {
 pub enum Between {
     Nothing,
     List(usize),
-    Lists(usize, usize, u32, usize),
+    Lists {
+        near: usize,
+        far: usize,
+        levels: u32,
+        meeting: usize,
+    },
 }
 
 pub mod above;
@@ -35,5 +45,6 @@ pub mod across;
 pub mod climbing;
 pub mod direct;
 pub mod limited;
+pub mod list_pair;
 pub mod passing;
 pub mod places;

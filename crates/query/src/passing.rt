@@ -42,13 +42,10 @@ fn four_further(labels: &[u8], at: usize) -> usize
     requires labels_len_bound { length labels.now ≤ most_bytes }
     ensures { result ≡ further labels.now at 4 }
 {
-    if labels.len() - at >= 4 * SINGLE_BYTES {
-        if four_single(labels, at) {
-            return at + 4 * SINGLE_BYTES;
-        }
+    if labels.len() - at >= 4 * SINGLE_BYTES && four_single(labels, at) {
+        return at + 4 * SINGLE_BYTES;
     }
-    let behind = skip(labels, Place { at: at }, 4);
-    behind.at
+    skip(labels, Place { at }, 4).at
 }
 
 // So many lists further, four at a time where they are many.
@@ -58,15 +55,14 @@ pub fn pass_lists(labels: &[u8], at: usize, lists: usize) -> usize
     ensures { result ≡ further labels.now at lists }
 {
     if lists < MANY {
-        let behind = skip(labels, Place { at: at }, lists);
-        return behind.at;
+        return skip(labels, Place { at }, lists).at;
     }
     let mut here = at;
-    let mut done: usize = 0;
-    while lists - done >= 4 {
+    let mut left = lists;
+    // Not `for _ in 0..lists / 4`: the rest, known to be below four, then becomes three branches, and a long chain takes a third longer.
+    while left >= 4 {
         here = four_further(labels, here);
-        done += 4;
+        left -= 4;
     }
-    let behind = skip(labels, Place { at: here }, lists - done);
-    behind.at
+    skip(labels, Place { at: here }, left).at
 }

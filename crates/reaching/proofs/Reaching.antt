@@ -1,11 +1,10 @@
 -- What the search finds is what the paths have: two junctions have one list between them, two for each common ancestor, or none.
--- In this order: the marks that are held; where the lists of two junctions stand; what the paths have.
+-- In this order: where the lists of two junctions stand; what the paths have.
 use mathlib.Core.Path.{◌≡◌, ap, ◌∙◌}
 use mathlib.Core.Bool.{Bool, true, false}
 use mathlib.Core.List.{List}
 use Prim.Native.Nat.{ℕ, suc, ◌+◌, ◌-◌, ◌≤◌, ◌<◌}
 use native.Mathlib.Omega.{arith}
-use lib.ListN.{length}
 use Rattle.paths.specs.Network.{stay, weight}
 use Rattle.paths.specs.Forest.{Common}
 use Rattle.paths.proofs.Crossing.{apart-without-common}
@@ -27,23 +26,8 @@ use Rattle.query.specs.working.Between.{ListBetween, ListsBetween}
 use Rattle.query.specs.working.Levels.{behind, MarkedSum}
 use Rattle.query.proofs.WholeAnswers.{StandsFor, trade_off_stands, marked-stands, list-between-right}
 use Rattle.reaching.specs.working.Reach.{PathWithin}
-use Rattle.reaching.specs.working.Searched.{HasWithin, SumUp, Held}
+use Rattle.reaching.specs.working.Searched.{HasWithin, SumUp}
 use Rattle.reaching.proofs.Searching.{not_both, found_yes}
-
--- ---- The marks that are held
-
-module _ {net labels : List ℕ} {l held : ℕ} {marks : List ℕ} where
-  -- those of l
-  pub held_same : l < junctions_of labels → Held net labels held marks → held ≡ l → HopMarks net labels l marks
-  held_same on_map now e = rw e at (now.kept (omega arith))
-
-  -- marked anew
-  pub held_new : HopMarks net labels l marks → held ≡ l → Held net labels held marks
-  held_new hops e = record { places = hops.marks_length; kept = λ h. rw e hops }
-
--- none at first
-pub held_none : {net labels marks : List ℕ} {held : ℕ} → length marks ≡ 1024 → junctions_of labels ≤ held → Held net labels held marks
-held_none places h = record { places = places; kept = λ g. absurd (omega arith) }
 
 -- ---- Where the lists of two junctions stand
 

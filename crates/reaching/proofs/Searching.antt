@@ -6,9 +6,11 @@ use mathlib.Core.List.{List}
 use Prim.Native.Nat.{ℕ, ◌+◌, ◌-◌, ◌≤◌, ◌<◌}
 use native.Mathlib.Decide.{dec_le, ℕ_discrete}
 use native.Mathlib.Omega.{arith}
-use lib.Dec.{leb, ltb}
+use lib.Dec.{ltb}
 use lib.ListN.{get_or}
-use borrow.Author.Tests.{leb-true, leb-false, ltb-true}
+use borrow.Author.Tests.{ltb-true}
+use Rattle.std.specs.Ordering.{is_le, nat_cmp}
+use Rattle.std.proofs.lemmas.Bool.Decides.{nat_tests}
 use Rattle.paths.specs.Weights.{weights, energy, pair, time, spent}
 use Rattle.paths.specs.TradeOff.{IsSum}
 use Rattle.lists.specs.Entries.{Weight}
@@ -22,7 +24,7 @@ use Rattle.query.specs.working.Levels.{LevelSum}
 use Rattle.query.specs.working.Sums.{FittingFrom}
 use Rattle.query.proofs.ListPlaces.{entry, energies_rise, times_fall}
 use Rattle.query.proofs.Rows.{Along, along-none, along_all}
-use Rattle.reaching.specs.working.Searched.{HasWithin, SumUp, CoversAt, NoSum, Tried}
+use Rattle.reaching.specs.working.Searched.{HasWithin, SumUp, CoversAt, NoSum}
 
 -- false is not true
 pub not_both : {A : Type 0} → ◌≡◌ {A = Bool} false true → A
@@ -32,14 +34,25 @@ not_both q = let z : ◌≡◌ {A = ℕ} 0 1 = cc in absurd (omega arith)
 pub found_yes : {P : Type 0} → P → Decides P true
 found_yes p = record { holds = λ q. p; fails = λ q. not_both (sym q) }
 
+-- what a comparison tells
+pub le_decides : {a b : ℕ} {answer : Bool} → answer ≡ is_le (nat_cmp a b) → Decides (a ≤ b) answer
+le_decides e = record { holds = λ q. grind (arith, nat_tests); fails = λ q h. grind (arith, nat_tests) }
+
+beyond : {a b : ℕ} → (a ≤ b → ⊥) → b < a
+beyond {a} {b} over = which (dec_le a b)
+  where
+    which : Dec (a ≤ b) → b < a
+    which (yes h) = absurd (over h)
+    which (no h) = omega arith
+
 -- ---- One list
 
 module _ {labels : List ℕ} {at most_time most_energy j : ℕ} (fits : ListFits labels at) (fitting : FittingFrom labels at 0 most_energy (count_at labels at) j) where
   -- no entry fits: none covers the pair
-  pub list-none : j ≡ 0 → Decides (HasWithin (EntryOf (list_at labels at)) (pair most_time most_energy)) false
+  pub list-none : j ≤ 0 → Decides (HasWithin (EntryOf (list_at labels at)) (pair most_time most_energy)) (ltb 0 j)
   list-none e =
       record {
-        holds = λ q. not_both q;
+        holds = λ q. let some : 0 < j = ltb-true 0 j q in absurd (omega arith);
         fails = λ q some.
             let z = member-stands (entry labels at) (count_at labels at) some.among.member in
             let spends : spent energy some.one ≡ energy_at labels at z.place = ap (spent energy) z.is in
@@ -48,19 +61,19 @@ module _ {labels : List ℕ} {at most_time most_energy j : ℕ} (fits : ListFits
 
   -- the last entry that fits has the least time of them
   pub list-decides :
-      {last : ℕ} {answer : Bool} → (j ≡ 0 → ⊥) → last ≡ time_at labels at (j - 1) → answer ≡ leb last most_time →
+      {last : ℕ} {answer : Bool} → 0 < j → last ≡ time_at labels at (j - 1) → Decides (last ≤ most_time) answer →
       Decides (HasWithin (EntryOf (list_at labels at)) (pair most_time most_energy)) answer
   list-decides {last} {answer} some last-is e =
       record {
         holds = λ q.
-            let quick : last ≤ most_time = leb-true last most_time (sym e ∙ q) in
+            let quick : last ≤ most_time = e.holds q in
             record {
               one = entry labels at (j - 1);
               among = record { member = tabulate-member (entry labels at) (count_at labels at) {i = j - 1} (omega (arith, fitting.in_range)) };
               no_larger = (omega (arith, fitting.fits (omega arith)), omega arith);
             };
         fails = λ q other.
-            let late : most_time < last = leb-false last most_time (sym e ∙ q) in
+            let late : most_time < last = beyond (e.fails q) in
             let z = member-stands (entry labels at) (count_at labels at) other.among.member in
             let spends : spent energy other.one ≡ energy_at labels at z.place = ap (spent energy) z.is in
             let takes : time energy other.one ≡ time_at labels at z.place = ap (time energy) z.is in
@@ -74,35 +87,33 @@ module _ {labels : List ℕ} {at most_time most_energy j : ℕ} (fits : ListFits
 -- ---- Two lists
 
 -- Of the sums with the near list's first i entries none takes so little; from place j on no entry of the far list fits beside a later one
-pub record Pairing (labels : List ℕ) (near far most_time most_energy count i j : ℕ) : Type 0 where
-  pub few : i ≤ count
+pub record Pairing (labels : List ℕ) (near far most_time most_energy i j : ℕ) : Type 0 where
   pub in_far : j ≤ count_at labels far
   pub over : (a k : ℕ) → i ≤ a → a < count_at labels near → j ≤ k → k < count_at labels far → most_energy < energy_at labels near a + energy_at labels far k
   pub none : (a k : ℕ) → a < i → k < count_at labels far → time_at labels near a + time_at labels far k ≤ most_time → energy_at labels near a + energy_at labels far k ≤ most_energy → ⊥
 
 -- none is tried yet
-pub pairing_start : (labels : List ℕ) (near far most_time most_energy count : ℕ) {j : ℕ} → j ≡ count_at labels far → Pairing labels near far most_time most_energy count 0 j
-pairing_start labels near far most_time most_energy count e =
-    record { few = omega arith; in_far = omega arith; over = λ a k h g m n. absurd (omega arith); none = λ a k h g m n. absurd (omega arith) }
+pub pairing_start : (labels : List ℕ) (near far most_time most_energy : ℕ) {j : ℕ} → j ≡ count_at labels far → Pairing labels near far most_time most_energy 0 j
+pairing_start labels near far most_time most_energy e =
+    record { in_far = omega arith; over = λ a k h g m n. absurd (omega arith); none = λ a k h g m n. absurd (omega arith) }
 
-module _ {labels : List ℕ} {near far most_time most_energy count i j r beside : ℕ} (near_fits : ListFits labels near) (far_fits : ListFits labels far)
-    (now : Pairing labels near far most_time most_energy count i j) (h : i < count) (few : count ≤ count_at labels near) (beside-is : beside ≡ energy_at labels near i)
+module _ {labels : List ℕ} {near far most_time most_energy i j r beside : ℕ} (near_fits : ListFits labels near) (far_fits : ListFits labels far)
+    (now : Pairing labels near far most_time most_energy i j) (h : i < count_at labels near) (beside-is : beside ≡ energy_at labels near i)
     (fitting : FittingFrom labels far beside most_energy j r) where
   -- the entries from r on are over beside entry i
-  beyond : (k : ℕ) → r ≤ k → k < count_at labels far → most_energy < energy_at labels near i + energy_at labels far k
-  beyond k g m = pick (dec_le j k)
+  unfit : (k : ℕ) → r ≤ k → k < count_at labels far → most_energy < energy_at labels near i + energy_at labels far k
+  unfit k g m = pick (dec_le j k)
     where
       pick : Dec (j ≤ k) → most_energy < energy_at labels near i + energy_at labels far k
       pick (yes later) = now.over i k (omega arith) (omega arith) later m
       pick (no sooner) = omega (arith, fitting.over k g (omega arith), beside-is)
 
   -- the last that fits is the quickest, so entry i makes no sum
-  pub pairing_more : (CoversAt labels near i far r most_time → ⊥) → Pairing labels near far most_time most_energy count (i + 1) r
+  pub pairing_more : (CoversAt labels near i far r most_time → ⊥) → Pairing labels near far most_time most_energy (i + 1) r
   pairing_more uncovered =
       record {
-        few = omega arith;
         in_far = omega (arith, fitting.in_range, now.in_far);
-        over = λ a k g m n o. omega (arith, beyond k n o, energies_rise near_fits i a (omega arith) m);
+        over = λ a k g m n o. omega (arith, unfit k n o, energies_rise near_fits i a (omega arith) m);
         none = λ a k g m in_time in-energy. pick a k g m in_time in-energy (ℕ_discrete a i) (dec_le r k);
       }
     where
@@ -119,7 +130,7 @@ module _ {labels : List ℕ} {near far most_time most_energy count i j r beside 
       pick a k g m in_time in-energy (no apart) d = now.none a k (omega arith) m in_time in-energy
       pick a k g m in_time in-energy (yes same) (yes later) =
           let spends : energy_at labels near i + energy_at labels far k ≤ most_energy = rw same at in-energy in
-          omega (arith, beyond k later m)
+          omega (arith, unfit k later m)
       pick a k g m in_time in-energy (yes same) (no sooner) =
           let takes : time_at labels near i + time_at labels far k ≤ most_time = rw same at in_time in
           omega (arith, slow (omega arith), times_fall far_fits k (r - 1) (omega arith) (omega (arith, fitting.in_range, now.in_far)))
@@ -140,72 +151,51 @@ module _ {labels : List ℕ} {near far most_time most_energy count i j r beside 
         no_larger = (omega (arith, fitting.fits covers.some, beside-is), covers.quick);
       }
 
--- no entry of the far list fits
-pub covers-none : {labels : List ℕ} {near i far j most_time : ℕ} → j ≡ 0 → Decides (CoversAt labels near i far j most_time) false
-covers-none e = record { holds = λ q. not_both q; fails = λ q covers. omega (arith, covers.some) }
-
--- the sum of the two times decides
-pub covers-decides :
-    {labels : List ℕ} {near i far j most_time first second sum : ℕ} {answer : Bool} → (j ≡ 0 → ⊥) → first ≡ time_at labels near i → second ≡ time_at labels far (j - 1) →
-    sum ≡ first + second → answer ≡ leb sum most_time → Decides (CoversAt labels near i far j most_time) answer
-covers-decides {most_time = most_time} {sum = sum} some first_is second_is sum_is_lem e =
-    record {
-      holds = λ q. let quick : sum ≤ most_time = leb-true sum most_time (sym e ∙ q) in record { some = omega arith; quick = omega arith };
-      fails = λ q covers. let late : most_time < sum = leb-false sum most_time (sym e ∙ q) in omega (arith, covers.quick);
-    }
+-- every near entry was tried
+pub pairing_end :
+    {labels : List ℕ} {near far most_time most_energy i j : ℕ} → Pairing labels near far most_time most_energy i j → count_at labels near ≤ i →
+    NoSum labels near far most_time most_energy
+pairing_end now h = record { none = λ a k g m in_time in-energy. now.none a k (omega arith) m in_time in-energy }
 
 module _ {labels : List ℕ} {near far most_time most_energy : ℕ} where
   -- a list without entries makes no sum
-  pub no_near : {count : ℕ} → count ≡ count_at labels near → count ≡ 0 → NoSum labels near far most_time most_energy 0
-  no_near e f = record { none = λ i k from h g in_time in-energy. omega arith }
-
-  pub no_far : {count : ℕ} → count ≡ count_at labels far → count ≡ 0 → NoSum labels near far most_time most_energy 0
-  no_far e f = record { none = λ i k from h g in_time in-energy. omega arith }
+  pub no_entries : (0 < count_at labels near → count_at labels far ≤ 0) → NoSum labels near far most_time most_energy
+  no_entries lacks = record { none = λ i k h g in_time in-energy. omega (arith, lacks (omega arith)) }
 
   module _ (near_fits : ListFits labels near) (far_fits : ListFits labels far) where
     -- the first entries have the least energies
     pub least-over :
-        {first second sum : ℕ} {over : Bool} → first ≡ energy_at labels near 0 → second ≡ energy_at labels far 0 → sum ≡ first + second → over ≡ ltb most_energy sum →
-        over ≡ true → NoSum labels near far most_time most_energy 0
-    least-over {sum = sum} first_is second_is sum_is_lem e f =
-        let beyond : most_energy < sum = ltb-true most_energy sum (sym e ∙ f) in
+        {sum : ℕ} → sum ≡ energy_at labels near 0 + energy_at labels far 0 → (sum ≤ most_energy → ⊥) →
+        NoSum labels near far most_time most_energy
+    least-over {sum} sum_is_lem over =
+        let late : most_energy < sum = beyond over in
         record {
-          none = λ i k from h g in_time in-energy.
+          none = λ i k h g in_time in-energy.
               omega (arith, energies_rise near_fits 0 i (omega arith) h, energies_rise far_fits 0 k (omega arith) g);
         }
 
     -- the last entries have the least times
     pub quickest_late :
-        {count others first second sum : ℕ} {in_time : Bool} → count ≡ count_at labels near → others ≡ count_at labels far → first ≡ time_at labels near (count - 1) →
-        second ≡ time_at labels far (others - 1) → sum ≡ first + second → in_time ≡ leb sum most_time → in_time ≡ false → NoSum labels near far most_time most_energy 0
-    quickest_late {count} {others} {sum = sum} count-is others-is first_is second_is sum_is_lem e f =
-        let late : most_time < sum = leb-false sum most_time (sym e ∙ f) in
+        {count others sum : ℕ} → count ≡ count_at labels near → others ≡ count_at labels far →
+        sum ≡ time_at labels near (count - 1) + time_at labels far (others - 1) → (sum ≤ most_time → ⊥) → NoSum labels near far most_time most_energy
+    quickest_late {count} {others} {sum} count-is others-is sum_is_lem over =
+        let late : most_time < sum = beyond over in
         record {
-          none = λ i k from h g in_time in-energy.
+          none = λ i k h g in_time in-energy.
               omega (arith, times_fall near_fits i (count - 1) (omega arith) (omega arith), times_fall far_fits k (others - 1) (omega arith) (omega arith));
         }
 
 -- ---- One level
 
 module _ {labels marks : List ℕ} {level near far most_time most_energy : ℕ} where
-  -- at a level that is not marked no entry is tried
-  pub tried_none : (get_or marks level 0 ≡ 1 → ⊥) → Tried labels marks level near far most_time most_energy 0
-  tried_none unmarked = record { marked = λ h. absurd (omega arith); few = omega arith; others = λ e. absurd (unmarked e) }
+  -- there is no sum at a level that is not marked
+  pub level-unmarked : (get_or marks level 0 ≡ 1 → ⊥) → Decides (HasWithin (LevelSum labels marks level near far) (pair most_time most_energy)) false
+  level-unmarked unmarked = record { holds = λ q. not_both q; fails = λ q z. unmarked z.among.marked }
 
-  -- nor where its lists make no sum
-  pub tried_nothing : NoSum labels near far most_time most_energy 0 → Tried labels marks level near far most_time most_energy 0
-  tried_nothing nothing = record { marked = λ h. absurd (omega arith); few = omega arith; others = λ e. nothing }
-
-  -- at any other all are
-  pub tried_all : {count : ℕ} → get_or marks level 0 ≡ 1 → count ≡ count_at labels near → Tried labels marks level near far most_time most_energy count
-  tried_all marked e =
-      record { marked = λ h. marked; few = omega arith; others = λ h. record { none = λ i k from g m in_time in-energy. omega arith } }
-
-  -- all entries to try were tried
+  -- nor where the lists make none that takes so little
   pub level-none :
-      {count i j : ℕ} → Pairing labels near far most_time most_energy count i j → count ≤ i → Tried labels marks level near far most_time most_energy count →
-      Decides (HasWithin (LevelSum labels marks level near far) (pair most_time most_energy)) false
-  level-none {count} now h tried = record { holds = λ q. not_both q; fails = λ q z. nothing z.one z.among z.no_larger }
+      NoSum labels near far most_time most_energy → Decides (HasWithin (LevelSum labels marks level near far) (pair most_time most_energy)) false
+  level-none no_sum = record { holds = λ q. not_both q; fails = λ q z. nothing z.one z.among z.no_larger }
     where
       nothing : (q : Weight) → LevelSum labels marks level near far q → (weights energy).◌⊑◌ q (pair most_time most_energy) → ⊥
       nothing q here small =
@@ -215,19 +205,13 @@ module _ {labels marks : List ℕ} {level near far most_time most_energy : ℕ} 
           let second_energy : spent energy here.sum.right ≡ energy_at labels far two.place = ap (spent energy) two.is in
           let sum-time : time energy here.sum.left + time energy here.sum.right ≡ time energy q = ap (time energy) here.sum.adds in
           let sum-energy : spent energy here.sum.left + spent energy here.sum.right ≡ spent energy q = ap (spent energy) here.sum.adds in
-          pick (omega (arith, small.1)) (omega (arith, small.0)) (dec_le count one.place)
+          no_sum.none one.place two.place one.below two.below (omega (arith, small.1)) (omega (arith, small.0))
         where
           one : Stands (entry labels near) (count_at labels near) here.sum.left
           one = member-stands (entry labels near) (count_at labels near) here.sum.in_first
 
           two : Stands (entry labels far) (count_at labels far) here.sum.right
           two = member-stands (entry labels far) (count_at labels far) here.sum.in_second
-
-          pick :
-              time_at labels near one.place + time_at labels far two.place ≤ most_time →
-              energy_at labels near one.place + energy_at labels far two.place ≤ most_energy → Dec (count ≤ one.place) → ⊥
-          pick in_time in-energy (yes other) = (tried.others here.marked).none one.place two.place other one.below two.below in_time in-energy
-          pick in_time in-energy (no tries) = now.none one.place two.place (omega arith) two.below in_time in-energy
 
   -- a sum at a marked level
   pub level-found :

@@ -6,9 +6,7 @@ use mathlib.Core.List.{List, ◌∷◌}
 use Prim.Native.Nat.{ℕ, suc, ◌+◌, ◌-◌, ◌≤◌, ◌<◌}
 use native.Mathlib.Decide.{dec_le, ℕ_discrete}
 use native.Mathlib.Omega.{arith}
-use lib.Dec.{leb, ltb}
 use lib.ListN.{get_or}
-use borrow.Author.Tests.{leb-true, leb-false, ltb-true, ltb-false}
 use Rattle.paths.specs.Weights.{weights, energy, pair, time, spent}
 use Rattle.paths.specs.Network.{Walk, stay, go, weight}
 use Rattle.paths.specs.TradeOff.{Skyline}
@@ -23,10 +21,10 @@ use Rattle.network.specs.working.Fits.{NetworkFits}
 use Rattle.network.proofs.Arcs.{one_weight}
 use Rattle.network.proofs.RoadsAt.{next_road_low, next_road-touches, next_road-passed, touches_arc, arc_touches, others_rise}
 use Rattle.refusals.specs.working.Decides.{Decides}
-use Rattle.query.specs.declared.Pair.{Pair}
+use Rattle.paths.specs.declared.pair.Pair.{Pair}
 use Rattle.reaching.specs.working.Reach.{PathWithin, weight_of}
 use Rattle.reaching.proofs.Searching.{not_both}
-use Rattle.routes.specs.working.Steps.{RoadPair, FitsInto, LeftAfter, StepFits, StepRoad}
+use Rattle.routes.specs.working.Steps.{RoadPair, StepFits, StepRoad}
 
 -- ---- What is left after a road
 
@@ -40,21 +38,9 @@ pub rest-adds :
     (weights energy).◌⊕◌ (road_pair net k) (pair (whole_time - road_time net k) (whole_energy - road_energy net k)) ≡ pair whole_time whole_energy
 rest-adds net k h g = ap₂ pair (omega arith) (omega arith)
 
--- a part that takes too long does not fit
-pub too_slow : {part whole : Pair} {answer : Bool} → answer ≡ ltb whole.time.0 part.time.0 → answer ≡ true → Decides (FitsInto part whole) false
-too_slow {part} {whole} e f =
-    let late : whole.time.0 < part.time.0 = ltb-true whole.time.0 part.time.0 (sym e ∙ f) in
-    record { holds = λ q. not_both q; fails = λ q fits. omega (arith, fits.fitting_time) }
-
--- of any other the energies decide
-pub energies-decide :
-    {part whole : Pair} {late answer : Bool} → late ≡ ltb whole.time.0 part.time.0 → late ≡ false →
-    answer ≡ leb part.energy.0 whole.energy.0 → Decides (FitsInto part whole) answer
-energies-decide {part} {whole} e f g =
-    record {
-      holds = λ q. record { fitting_time = ltb-false whole.time.0 part.time.0 (sym e ∙ f); fitting_energy = leb-true part.energy.0 whole.energy.0 (sym g ∙ q) };
-      fails = λ q fits. omega (arith, leb-false part.energy.0 whole.energy.0 (sym g ∙ q), fits.fitting_energy);
-    }
+-- What subtracting a pair gives
+abbrev pub LeftAfter : Pair → Pair → Pair → Type 0
+LeftAfter whole part left = (left.time.0 ≡ whole.time.0 - part.time.0) × (left.energy.0 ≡ whole.energy.0 - part.energy.0)
 
 -- A road of x that fits
 record SomeStep (net : List ℕ) (x y whole_time whole_energy : ℕ) : Type 0 where
@@ -70,26 +56,26 @@ pub record RoadSearch (net : List ℕ) (x y whole_time whole_energy k : ℕ) : T
 
 module _ {net : List ℕ} {x y k : ℕ} {takes whole : Pair} (read : RoadPair net k takes) where
   -- a road that does not fit
-  pub step_unfit : (FitsInto takes whole → ⊥) → Decides (StepFits net x y k whole.time.0 whole.energy.0) false
+  pub step_unfit : (takes.time.0 ≤ whole.time.0 → takes.energy.0 ≤ whole.energy.0 → ⊥) → Decides (StepFits net x y k whole.time.0 whole.energy.0) false
   step_unfit unfit =
       record {
         holds = λ q. not_both q;
-        fails = λ q step. unfit (record { fitting_time = rw read.time_is step.fitting_time; fitting_energy = rw read.energy_is step.fitting_energy });
+        fails = λ q step. unfit (rw read.time_is step.fitting_time) (rw read.energy_is step.fitting_energy);
       }
 
   -- of any other road the answer is whether its other end reaches y within the rest
   pub step-decided :
-      {left : Pair} {next : ℕ} {answer : Bool} → FitsInto takes whole → LeftAfter whole takes left → next ≡ other_end net x k →
+      {left : Pair} {next : ℕ} {answer : Bool} → takes.time.0 ≤ whole.time.0 → takes.energy.0 ≤ whole.energy.0 → LeftAfter whole takes left → next ≡ other_end net x k →
       Decides (PathWithin net next y (weight_of left)) answer → Decides (StepFits net x y k whole.time.0 whole.energy.0) answer
-  step-decided {left} {next} fits rest e decides =
+  step-decided {left} {next} fitting_time fitting_energy rest e decides =
       record {
         holds = λ q.
-            record { fitting_time = rw (← read.time_is) fits.fitting_time; fitting_energy = rw (← read.energy_is) fits.fitting_energy; within = rw (← same) (decides.holds q) };
+            record { fitting_time = rw (← read.time_is) fitting_time; fitting_energy = rw (← read.energy_is) fitting_energy; within = rw (← same) (decides.holds q) };
         fails = λ q step. decides.fails q (rw same step.within);
       }
     where
       same : PathWithin net next y (weight_of left) ≡ PathWithin net (other_end net x k) y (pair (whole.time.0 - road_time net k) (whole.energy.0 - road_energy net k))
-      same = rw (e, rest.time_is, rest.energy_is, read.time_is, read.energy_is)
+      same = rw (e, rest.0, rest.1, read.time_is, read.energy_is)
 
 -- what the road after one of x is asked with
 pub road-follows :

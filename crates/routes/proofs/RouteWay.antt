@@ -21,11 +21,11 @@ use Rattle.network.specs.working.Roads.{other_end}
 use Rattle.network.specs.working.Fits.{NetworkFits}
 use Rattle.network.proofs.Arcs.{arc_on_map}
 use Rattle.network.proofs.RoadsAt.{other_on_map}
-use Rattle.query.specs.declared.Pair.{Pair}
+use Rattle.paths.specs.declared.pair.Pair.{Pair}
 use Rattle.reaching.specs.working.Reach.{weight_of}
-use Rattle.routes.specs.working.Steps.{RoadPair, FitsInto, LeftAfter, StepRoad}
+use Rattle.routes.specs.working.Steps.{RoadPair, StepRoad}
 use Rattle.routes.specs.working.Written.{RouteFound}
-use Rattle.routes.proofs.RouteSteps.{step_arc, step-whole, step_line, step-route}
+use Rattle.routes.proofs.RouteSteps.{LeftAfter, step_arc, step-whole, step_line, step-route}
 
 -- ---- Walks on the map
 
@@ -127,16 +127,16 @@ module _ {net : List ℕ} (fits : NetworkFits net) {x y : ℕ} {whole : Pair} {m
       in_room = omega (arith, way_room, now.places)
 
       left_is : weight_of left' ≡ pair (left.time.0 - road_time net k) (left.energy.0 - road_energy net k)
-      left_is = ap₂ pair (omega (arith, rest.time_is, read.time_is)) (omega (arith, rest.energy_is, read.energy_is))
+      left_is = ap₂ pair (omega (arith, rest.0, read.time_is)) (omega (arith, rest.1, read.energy_is))
 
   -- time falls with every road
   pub way_less :
       {k : ℕ} {takes left' : Pair} → StepRoad net here y k left.time.0 left.energy.0 → RoadPair net k takes → LeftAfter left takes left' → left'.time.0 < left.time.0
-  way_less {k} step read rest = omega (arith, fits.takes_time k step.stands, step.fits.fitting_time, read.time_is, rest.time_is)
+  way_less {k} step read rest = omega (arith, fits.takes_time k step.stands, step.fits.fitting_time, read.time_is, rest.0)
 
   -- and every road that is taken fits
-  pub way_fits : {k : ℕ} {takes : Pair} → StepRoad net here y k left.time.0 left.energy.0 → RoadPair net k takes → FitsInto takes left
-  way_fits step read = record { fitting_time = rw read.time_is step.fits.fitting_time; fitting_energy = rw read.energy_is step.fits.fitting_energy }
+  pub way_fits : {k : ℕ} {takes : Pair} → StepRoad net here y k left.time.0 left.energy.0 → RoadPair net k takes → (takes.time.0 ≤ left.time.0) × (takes.energy.0 ≤ left.energy.0)
+  way_fits step read = (rw read.time_is step.fits.fitting_time, rw read.energy_is step.fits.fitting_energy)
 
   -- at y nothing is left to spend, and y ends the route
   pub way_end : here ≡ y → RouteFound net x y (weight_of whole) (count + 1) (set met count y)

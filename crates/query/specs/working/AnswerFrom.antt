@@ -1,10 +1,11 @@
 -- What a set of pairs answers under a limit, be it the entries of a list, the sums of two lists, or the sums at several junctions.
-use Rattle.std.specs.Prelude.{◌≡◌, ℕ}
+use Rattle.std.specs.Prelude.{◌≡◌, ℕ, Result, Err}
 use mathlib.Core.List.{List, Memᴰ}
 use Rattle.paths.specs.Weights.{energy, pair, Within, NotLater}
 use Rattle.lists.specs.Entries.{Weight}
-use Rattle.query.specs.declared.Answer.{Answer}
-use Rattle.query.specs.declared.Answer.TheVariants as case
+use Rattle.paths.specs.declared.pair.Pair.{Pair}
+use Rattle.query.specs.declared.NoAnswer.{NoAnswer}
+use Rattle.query.specs.declared.NoAnswer.TheVariants.{NotConnected, OverLimit}
 use Rattle.query.specs.working.AnswerValues.{number_of, time_of, energy_of}
 
 -- p is an entry of a list
@@ -23,7 +24,7 @@ pub record OverFrom (Has : Weight → Type 0) (C : ℕ) : Type 0 where
   pub among : Has one
   pub none_within : (q : Weight) → Has q → Within energy C q → ⊥
 
-pub data AnswerFrom (Has : Weight → Type 0) (C : ℕ) (r : Answer) : Type 0 where
+pub data AnswerFrom (Has : Weight → Type 0) (C : ℕ) (r : Result Pair NoAnswer) : Type 0 where
   found : number_of r ≡ 0 → BestFrom Has C (pair (time_of r) (energy_of r)) → AnswerFrom Has C r
-  over_limit : r ≡ case.OverLimit → OverFrom Has C → AnswerFrom Has C r
-  not_connected : r ≡ case.NotConnected → ((q : Weight) → Has q → ⊥) → AnswerFrom Has C r
+  over_limit : r ≡ Err OverLimit → OverFrom Has C → AnswerFrom Has C r
+  not_connected : r ≡ Err NotConnected → ((q : Weight) → Has q → ⊥) → AnswerFrom Has C r

@@ -1,23 +1,18 @@
--- The number and the values that an answer stands for.
-use Rattle.std.specs.Prelude.{ℕ}
-use Rattle.query.specs.declared.Answer.{Answer}
-use Rattle.query.specs.declared.Answer.TheVariants as case
+-- The number and the values that an answer stands for: the best pair, or why there is none.
+use Rattle.std.specs.Prelude.{ℕ, Result, Ok, Err}
+use Rattle.paths.specs.declared.pair.Pair.{Pair}
+use Rattle.query.specs.declared.NoAnswer.{NoAnswer}
+use Rattle.query.specs.NoAnswers.{number_without}
 
 -- The number, the time and the energy of an answer, zeros beside a refusal (SCOPE 4.1)
-abbrev pub number_of : Answer → ℕ
-number_of (case.Found time energy) = 0
-number_of case.OffMap = 21
-number_of case.NotConnected = 22
-number_of case.OverLimit = 23
+abbrev pub number_of : Result Pair NoAnswer → ℕ
+number_of (Ok best) = 0
+number_of (Err why) = number_without why
 
-abbrev pub time_of : Answer → ℕ
-time_of (case.Found time energy) = time.0
-time_of case.OffMap = 0
-time_of case.NotConnected = 0
-time_of case.OverLimit = 0
+abbrev pub time_of : Result Pair NoAnswer → ℕ
+time_of (Ok best) = best.time.0
+time_of (Err why) = 0
 
-abbrev pub energy_of : Answer → ℕ
-energy_of (case.Found time energy) = energy.0
-energy_of case.OffMap = 0
-energy_of case.NotConnected = 0
-energy_of case.OverLimit = 0
+abbrev pub energy_of : Result Pair NoAnswer → ℕ
+energy_of (Ok best) = best.energy.0
+energy_of (Err why) = 0

@@ -3,7 +3,7 @@ use Rattle.std.specs.Prelude.{List, ℕ}
 use Rattle.paths.specs.Weights.{weights, energy, pair}
 use Rattle.paths.specs.Network.{Walk, weight}
 use Rattle.network.specs.NetworkFile.{network_of}
-use Rattle.query.specs.declared.Pair.{Pair}
+use Rattle.paths.specs.declared.pair.Pair.{Pair}
 
 -- The weight that a pair in the code stands for
 abbrev pub weight_of : Pair → (weights energy).Figure

@@ -1,12 +1,12 @@
 -- What the search for an entry that covers a pair tells its callers.
-use Rattle.std.specs.Prelude.{◌≡◌, List, ℕ, ◌+◌, ◌-◌, ◌≤◌, ◌<◌, length, get_or}
+use Rattle.std.specs.Prelude.{◌≡◌, List, ℕ, ◌+◌, ◌-◌, ◌≤◌, ◌<◌, length, Some}
 use Rattle.paths.specs.Weights.{weights, energy}
 use Rattle.lists.specs.Entries.{Weight}
-use Rattle.network.specs.NetworkFile.{junctions_of}
 use Rattle.forest.specs.LabelFile.{count_at, time_at, energy_at}
 use Rattle.stored.specs.working.Scanned.{further}
 use Rattle.hoplinks.specs.working.Meeting.{HopMarks}
 use Rattle.query.specs.working.Levels.{LevelSum}
+use Rattle.reaching.specs.declared.reach.Hoplinks.{Hoplinks}
 
 -- A pair of the set takes no more than p
 pub record HasWithin (Has : Weight → Type 0) (p : Weight) : Type 0 where
@@ -25,19 +25,13 @@ pub record CoversAt (labels : List ℕ) (near i far j most_time : ℕ) : Type 0 
   pub some : 0 < j
   pub quick : time_at labels near i + time_at labels far (j - 1) ≤ most_time
 
--- No sum of an entry of the near list, from place `from` on, and an entry of the far list takes no more than (most_time, most_energy)
-pub record NoSum (labels : List ℕ) (near far most_time most_energy from : ℕ) : Type 0 where
+-- No sum of an entry of the near list and an entry of the far list takes no more than (most_time, most_energy)
+pub record NoSum (labels : List ℕ) (near far most_time most_energy : ℕ) : Type 0 where
   pub none :
-      (i k : ℕ) → from ≤ i → i < count_at labels near → k < count_at labels far → time_at labels near i + time_at labels far k ≤ most_time →
+      (i k : ℕ) → i < count_at labels near → k < count_at labels far → time_at labels near i + time_at labels far k ≤ most_time →
       energy_at labels near i + energy_at labels far k ≤ most_energy → ⊥
 
--- How many entries of the near list are tried at a level: none where it is not marked, and where it is the others make no such sum
-pub record Tried (labels marks : List ℕ) (level near far most_time most_energy count : ℕ) : Type 0 where
-  pub marked : 0 < count → get_or marks level 0 ≡ 1
-  pub few : count ≤ count_at labels near
-  pub others : get_or marks level 0 ≡ 1 → NoSum labels near far most_time most_energy count
-
--- The hoplinks of the junction held are marked; a number behind the last junction holds none
-pub record Held (net labels : List ℕ) (held : ℕ) (marks : List ℕ) : Type 0 where
-  pub places : length marks ≡ 1024
-  pub kept : held < junctions_of labels → HopMarks net labels held marks
+-- The hoplinks of the junction held are marked, if one is held
+pub record Held (net labels : List ℕ) (hoplinks : Hoplinks) : Type 0 where
+  pub places : length hoplinks.marks ≡ 1024
+  pub kept : {l : ℕ} → hoplinks.held ≡ Some l → HopMarks net labels l hoplinks.marks

@@ -3,23 +3,13 @@ use Rattle.std.specs.Prelude.{◌≡◌, true, List, ℕ, ◌-◌, ◌≤◌, �
 use Rattle.paths.specs.Weights.{pair}
 use Rattle.network.specs.NetworkFile.{roads_of, road_time, road_energy}
 use Rattle.network.specs.working.Roads.{touches, other_end}
-use Rattle.query.specs.declared.Pair.{Pair}
+use Rattle.paths.specs.declared.pair.Pair.{Pair}
 use Rattle.reaching.specs.working.Reach.{PathWithin}
 
 -- The pair of road k
 pub record RoadPair (net : List ℕ) (k : ℕ) (takes : Pair) : Type 0 where
   pub time_is : takes.time.0 ≡ road_time net k
   pub energy_is : takes.energy.0 ≡ road_energy net k
-
--- A part takes no more than the whole in either figure
-pub record FitsInto (part whole : Pair) : Type 0 where
-  pub fitting_time : part.time.0 ≤ whole.time.0
-  pub fitting_energy : part.energy.0 ≤ whole.energy.0
-
--- What is left of the whole behind a part
-pub record LeftAfter (whole part left : Pair) : Type 0 where
-  pub time_is : left.time.0 ≡ whole.time.0 - part.time.0
-  pub energy_is : left.energy.0 ≡ whole.energy.0 - part.energy.0
 
 -- Road k fits into (whole_time, whole_energy), and a path from its other end to y fits into the rest
 pub record StepFits (net : List ℕ) (x y k whole_time whole_energy : ℕ) : Type 0 where

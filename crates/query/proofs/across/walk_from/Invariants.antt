@@ -1,10 +1,6 @@
 -- Every near entry that is passed has its best sum weighed; where the walk ends, no later one has a better sum.
-use Prim.Native.Nat.{◌-◌}
 use Rattle.query.proofs.BestSums.{Walked}
 use Rattle.query.proofs.across.walk_from.Given as goal
 
 abbrev pub invariant-loop-i : goal.invariant-loop-i
-invariant-loop-i l = Walked l.labels l.near l.far l.limit.0 l.initial.best l.i l.j l.best
-
-abbrev pub decreases-loop-i : goal.decreases-loop-i
-decreases-loop-i l = l.count - l.i
+invariant-loop-i l = Walked l.lists.labels.now l.lists.near l.lists.far l.limit.0 l.initial.best l.i l.j l.best

@@ -2,13 +2,13 @@
 use mathlib.Core.Path.{sym}
 use mathlib.Core.Logic.{inl, inr}
 use native.Mathlib.Omega.{arith}
-use Rattle.query.proofs.BlockLaws.{block_above, outside_block, block_small, above-deeper}
+use Rattle.query.proofs.BlockLaws.{block_above, outside_block, above-deeper}
 use Rattle.query.proofs.ClimbLaws.{leads_of, raised_near, raised_far}
 use Rattle.query.proofs.climbing.between.Goals as goal
 
 -- ---- x is the deeper
 pub in_block-requires : goal.in_block-requires
-in_block-requires c = record { tables_len = c.requires.numbered.places; u_bound = (omega (arith, c.requires.formed.0.parents.few_junctions, c.requires.x_bound.1), omega (arith, c.requires.formed.0.parents.few_junctions, c.requires.x_bound.0)); u_bound_2 = block_small c.requires.formed.0 c.requires.numbered c.requires.x_bound.1 }
+in_block-requires c = record { tables_len = c.requires.numbered.places; u_bound = (omega (arith, c.requires.formed.0.parents.few_junctions, c.requires.x_bound.1), omega (arith, c.requires.formed.0.parents.few_junctions, c.requires.x_bound.0)) }
 
 -- y stands above x
 pub list_above-requires : goal.list_above-requires
@@ -28,7 +28,7 @@ returns-then-depth_y-depth_x c = leads_of c.args.labels.now c.meet.result c.clim
 
 -- ---- x is not
 pub in_block-requires-2 : goal.in_block-requires-2
-in_block-requires-2 c = record { tables_len = c.requires.numbered.places; u_bound = (omega (arith, c.requires.formed.0.parents.few_junctions, c.requires.x_bound.0), omega (arith, c.requires.formed.0.parents.few_junctions, c.requires.x_bound.1)); u_bound_2 = block_small c.requires.formed.0 c.requires.numbered c.requires.x_bound.0 }
+in_block-requires-2 c = record { tables_len = c.requires.numbered.places; u_bound = (omega (arith, c.requires.formed.0.parents.few_junctions, c.requires.x_bound.0), omega (arith, c.requires.formed.0.parents.few_junctions, c.requires.x_bound.1)) }
 
 -- x stands above y
 pub list_above-requires-then-in_block-2 : goal.list_above-requires-then-in_block-2

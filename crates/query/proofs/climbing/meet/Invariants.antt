@@ -2,8 +2,5 @@
 use Rattle.query.specs.working.Between.{Abreast}
 use Rattle.query.proofs.climbing.meet.Given as goal
 
-abbrev pub invariant-loop-levels : goal.invariant-loop-levels
-invariant-loop-levels l = Abreast l.labels l.initial.left.from l.initial.right.from l.levels l.left l.right
-
-abbrev pub decreases-loop-levels : goal.decreases-loop-levels
-decreases-loop-levels l = l.levels
+abbrev pub invariant-loop-level : goal.invariant-loop-level
+invariant-loop-level l = Abreast l.labels l.initial.left.from l.initial.right.from l.level l.left l.right

@@ -1,20 +1,28 @@
 -- After each turn the place is four lists further.
+use mathlib.Core.Path.{◌≡◌}
+use Prim.Native.Nat.{◌+◌, ◌-◌}
 use native.Mathlib.Omega.{arith}
 use Rattle.stored.proofs.Places.{moved_none}
 use Rattle.query.proofs.PassLaws.{moved-ahead, moved_by, moved-rest}
 use Rattle.query.proofs.passing.pass_lists.Goals as goal
 
-pub loop-done-init : goal.loop-done-init
-loop-done-init c = moved_none _ _ _
+pub loop-left-init : goal.loop-left-init
+loop-left-init c =
+    let none : c.args.lists - c.args.lists ≡ 0 = omega arith in
+    record { moved = rw none (moved_none _ _ _); few = omega arith }
 
-pub four_further-here-requires : goal.four_further-here-requires
-four_further-here-requires c = record { at_in_bounds = moved-ahead c.loop-done.invariant 4 (omega (arith, c.loop-done.invariant.few, c.loop-done-test.true)) c.requires.lists_in_bounds; labels_len_bound = c.requires.labels_len_bound }
+pub four_further-here-requires-clause-at_in_bounds : goal.four_further-here-requires-clause-at_in_bounds
+four_further-here-requires-clause-at_in_bounds c = moved-ahead c.loop-left.invariant.moved 4 (omega (arith, c.loop-left.invariant.few)) c.requires.lists_in_bounds
 
-pub loop-done-preserved : goal.loop-done-preserved
-loop-done-preserved c = moved_by c.loop-done.invariant 4 (omega (arith, c.loop-done.invariant.few, c.loop-done-test.true)) c.four_further-here.ensures
+pub loop-left-preserved : goal.loop-left-preserved
+loop-left-preserved c =
+    let next : c.args.lists - (c.loop-left.left - 4) ≡ c.args.lists - c.loop-left.left + 4 = omega (arith, c.loop-left.invariant.few) in
+    record { moved = rw next (moved_by c.loop-left.invariant.moved 4 (omega (arith, c.loop-left.invariant.few)) c.four_further-here.ensures); few = omega (arith, c.loop-left.invariant.few) }
 
-pub skip-behind-requires-2 : goal.skip-behind-requires-2
-skip-behind-requires-2 c = record { k_in_bounds = moved-ahead c.loop-done.invariant _ (omega (arith, c.loop-done.invariant.few)) c.requires.lists_in_bounds; labels_len_bound = c.requires.labels_len_bound }
+pub skip-requires-2-clause-k_in_bounds : goal.skip-requires-2-clause-k_in_bounds
+skip-requires-2-clause-k_in_bounds c = moved-ahead c.loop-left.invariant.moved c.loop-left.left (omega (arith, c.loop-left.invariant.few)) c.requires.lists_in_bounds
 
 pub returns : goal.returns
-returns c = moved-rest c.loop-done.invariant c.skip-behind-2.ensures
+returns c =
+    let rest : c.loop-left.left ≡ c.args.lists - (c.args.lists - c.loop-left.left) = omega (arith, c.loop-left.invariant.few) in
+    moved-rest c.loop-left.invariant.moved (rw rest at c.skip-2.ensures)

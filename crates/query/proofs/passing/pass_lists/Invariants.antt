@@ -1,10 +1,10 @@
 -- After each turn the place is four lists further.
-use Prim.Native.Nat.{◌-◌}
+use Prim.Native.Nat.{◌-◌, ◌≤◌}
 use Rattle.stored.proofs.Places.{Moved}
 use Rattle.query.proofs.passing.pass_lists.Given as goal
 
-abbrev pub invariant-loop-done : goal.invariant-loop-done
-invariant-loop-done l = Moved l.labels l.at l.lists l.done l.here
+abbrev pub invariant-loop-left : goal.invariant-loop-left
+invariant-loop-left l = record { moved : Moved l.labels l.at l.lists (l.lists - l.left) l.here; few : l.left ≤ l.lists }
 
-abbrev pub decreases-loop-done : goal.decreases-loop-done
-decreases-loop-done l = l.lists - l.done
+abbrev pub decreases-loop-left : goal.decreases-loop-left
+decreases-loop-left l = l.left

@@ -1,13 +1,11 @@
 -- What is written so far, with the first route of the rest behind it, is the first route of the whole; at y nothing is left.
-use Prim.Native.Nat.{ℕ}
 use native.Mathlib.Omega.{arith}
-use lib.ListN.{length-set, length-replicate}
-use Rattle.reaching.proofs.Reaching.{held_none}
+use lib.ListN.{length-set}
 use Rattle.routes.proofs.RouteWay.{way_start, way_room, way_more, way_less, way_fits, way_end}
 use Rattle.routes.proofs.route.route.Goals as goal
 
 pub loop-here-init : goal.loop-here-init
-loop-here-init c = (way_start c.requires.x_bound.0 c.requires.skyline c.requires.junctions_len, held_none (length-replicate {A = ℕ} 1024 0) (omega (arith, c.requires.prepared.beside.formed.parents.few_junctions)))
+loop-here-init c = (way_start c.requires.x_bound.0 c.requires.skyline c.requires.junctions_len, c.new-hoplinks.ensures _ _)
 
 pub overflow_cast-junctions : goal.overflow_cast-junctions
 overflow_cast-junctions c = omega (arith, c.loop-here.invariant.0.on_map, c.requires.prepared.beside.network.few_junctions)
@@ -24,19 +22,19 @@ step_road-k-requires c = record { prepared = c.requires.prepared; from_bound = (
 pub road_pair-requires : goal.road_pair-requires
 road_pair-requires c = omega (arith, c.step_road-k.ensures.step_road.stands, c.requires.prepared.beside.network.whole)
 
-pub left_after-rest-requires : goal.left_after-rest-requires
-left_after-rest-requires c = way_fits c.requires.prepared.beside.network c.loop-here.invariant.0 c.step_road-k.ensures.step_road c.road_pair.ensures
+pub sub-rest-requires : goal.sub-rest-requires
+sub-rest-requires c = way_fits c.requires.prepared.beside.network c.loop-here.invariant.0 c.step_road-k.ensures.step_road c.road_pair.ensures
 
 pub other_end-here-requires : goal.other_end-here-requires
 other_end-here-requires c = omega (arith, c.step_road-k.ensures.step_road.stands, c.requires.prepared.beside.network.whole)
 
 pub loop-here-smaller : goal.loop-here-smaller
-loop-here-smaller c = way_less c.requires.prepared.beside.network c.loop-here.invariant.0 c.step_road-k.ensures.step_road c.road_pair.ensures c.left_after-rest.ensures
+loop-here-smaller c = way_less c.requires.prepared.beside.network c.loop-here.invariant.0 c.step_road-k.ensures.step_road c.road_pair.ensures c.sub-rest.ensures
 
 pub loop-here-preserved : goal.loop-here-preserved
 loop-here-preserved c = (
   way_more c.requires.prepared.beside.network c.loop-here.invariant.0 c.loop-here-test.true c.step_road-k.ensures.step_road c.other_end-here.ensures.is c.road_pair.ensures
-      c.left_after-rest.ensures,
+      c.sub-rest.ensures,
   c.step_road-k.ensures.held_2,
 )
 

@@ -4,7 +4,7 @@ use Rattle.routes.proofs.RouteWay.{OnWay}
 use Rattle.routes.proofs.route.route.Given as goal
 
 abbrev pub invariant-loop-here : goal.invariant-loop-here
-invariant-loop-here l = OnWay l.net l.x l.y l.initial.rest l.junctions l.count l.here l.rest × Held l.net l.labels l.held l.marks
+invariant-loop-here l = OnWay l.set.net.now l.x l.y l.initial.rest l.junctions l.count l.here l.rest × Held l.set.net.now l.set.labels.now l.hoplinks
 
 abbrev pub decreases-loop-here : goal.decreases-loop-here
 decreases-loop-here l = l.rest.time.0

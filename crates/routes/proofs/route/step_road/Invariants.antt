@@ -5,7 +5,7 @@ use Rattle.routes.proofs.RouteSteps.{RoadSearch}
 use Rattle.routes.proofs.route.step_road.Given as goal
 
 abbrev pub invariant-loop-k : goal.invariant-loop-k
-invariant-loop-k l = RoadSearch l.net l.here l.ends.to l.whole.time.0 l.whole.energy.0 l.k × Held l.net l.labels l.held l.marks
+invariant-loop-k l = RoadSearch l.set.net.now l.here l.ends.to l.whole.time.0 l.whole.energy.0 l.k × Held l.set.net.now l.set.labels.now l.hoplinks
 
 abbrev pub decreases-loop-k : goal.decreases-loop-k
 decreases-loop-k l = l.roads - l.k
