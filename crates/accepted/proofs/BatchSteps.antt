@@ -1,27 +1,23 @@
 -- The ways through a batch: nothing answered yet, one triple more, all answered.
 use mathlib.Core.Path.{◌≡◌, refl, ap, ◌∙◌}
-use mathlib.Core.Logic.{◌⊎◌, inl, inr}
 use mathlib.Core.List.{List}
 use Prim.Native.Nat.{ℕ, ◌+◌, ◌*◌, ◌≤◌, ◌<◌}
 use native.Mathlib.Decide.{ℕ_discrete}
 use native.Mathlib.Omega.{arith}
 use lib.ListN.{length, get_or, set, length-set}
 use lib.Seq.{get_or-set_same, get_or-set_other}
-use Rattle.paths.specs.declared.seconds.Seconds.{Seconds}
-use Rattle.paths.specs.declared.energy.Energy.{Energy}
-use Rattle.query.specs.declared.Answer.{Answer}
-use Rattle.query.specs.declared.Answer.TheVariants as case
+use Rattle.query.specs.declared.NoAnswer.{NoAnswer}
+use Rattle.query.specs.declared.NoAnswer.TheVariants as case
 use Rattle.query.specs.Answers.{Answers}
-use Rattle.query.specs.working.AnswerValues.{number_of, time_of, energy_of}
+use Rattle.query.specs.NoAnswers.{number_without}
 use Rattle.accepted.specs.Batch.{TripleAnswered}
 use Rattle.accepted.specs.working.Triples.{put_triple, AnsweredTo, Triples}
 
--- an answer is a found pair, or it carries zeros beside its number
-pub pair_or_zeros : (a : Answer) → ((time : Seconds) × (energy : Energy) × (a ≡ case.Found time energy)) ⊎ ((time_of a ≡ 0) × (energy_of a ≡ 0) × (number_of a ≡ 0 → ⊥))
-pair_or_zeros (case.Found time energy) = inl (time, energy, refl)
-pair_or_zeros case.OffMap = inr (refl, refl, λ e. omega arith)
-pair_or_zeros case.NotConnected = inr (refl, refl, λ e. omega arith)
-pair_or_zeros case.OverLimit = inr (refl, refl, λ e. omega arith)
+-- an answer other than a pair has a number of its own
+pub number_some : (why : NoAnswer) → number_without why ≡ 0 → ⊥
+number_some case.OffMap e = omega arith
+number_some case.NotConnected e = omega arith
+number_some case.OverLimit e = omega arith
 
 -- what stands in the three places, and elsewhere
 module _ (places : List ℕ) (at a b c : ℕ) (room : at + 2 < length places) where
@@ -56,11 +52,11 @@ module _ {net queries before : List ℕ} where
 
   -- one triple more: the triple asked, and its answer written at its place
   pub one_answered :
-      {now after : List ℕ} {count i asked at a b c : ℕ} →
-      Triples queries before count → i < count → asked ≡ 3 * i → at ≡ 3 * i → AnsweredTo net queries before now i →
-      Answers net (get_or queries asked 0) (get_or queries (asked + 1) 0) (get_or queries (asked + 2) 0) a b c →
+      {now after : List ℕ} {count i at a b c : ℕ} →
+      Triples queries before count → i < count → at ≡ 3 * i → AnsweredTo net queries before now i →
+      Answers net (get_or queries at 0) (get_or queries (at + 1) 0) (get_or queries (at + 2) 0) a b c →
       after ≡ put_triple now at a b c → AnsweredTo net queries before after (i + 1)
-  one_answered {now} {after} {count} {i} {asked} {at} {a} {b} {c} triples below is-asked is so_far answer put =
+  one_answered {now} {after} {count} {i} {at} {a} {b} {c} triples below is so_far answer put =
       record { one_length = ap length put ∙ simp length-set so_far.one_length; answered = answered }
     where
       room : at + 2 < length now
@@ -69,8 +65,7 @@ module _ {net queries before : List ℕ} where
       same : (k : ℕ) → k ≡ i → TripleAnswered net queries after k
       same k e =
           let f : 3 * k ≡ at = omega arith in
-          let g : asked ≡ at = omega arith in
-          rw (f, put) (answers_cast (put_first now at a b c room) (put_second now at a b c room) (put_third now at a b c room) (rw g at answer))
+          rw (f, put) (answers_cast (put_first now at a b c room) (put_second now at a b c room) (put_third now at a b c room) answer)
 
       earlier : (k : ℕ) → k < i → TripleAnswered net queries after k
       earlier k h =

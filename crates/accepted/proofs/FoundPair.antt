@@ -3,16 +3,15 @@ use mathlib.Core.Path.{◌≡◌}
 use mathlib.Core.List.{List}
 use Prim.Native.Nat.{ℕ, ◌<◌}
 use native.Mathlib.Omega.{arith}
-use Rattle.paths.specs.declared.seconds.Seconds.{Seconds}
-use Rattle.paths.specs.declared.energy.Energy.{Energy}
+use Rattle.std.specs.Prelude.{Result, Ok}
+use Rattle.paths.specs.declared.pair.Pair.{Pair}
 use Rattle.paths.specs.Weights.{pair}
 use Rattle.paths.specs.TradeOff.{Skyline}
 use Rattle.paths.specs.Answer.{Best}
 use Rattle.paths.proofs.Answers.{best_is_skyline}
 use Rattle.paths.proofs.Figures.{number_lawful}
 use Rattle.network.specs.NetworkFile.{network_of, junctions_of}
-use Rattle.query.specs.declared.Answer.{Answer}
-use Rattle.query.specs.declared.Answer.TheVariants as case
+use Rattle.query.specs.declared.NoAnswer.{NoAnswer}
 use Rattle.query.specs.Answers.{Answers, off_map, not_connected, over_limit, found}
 use Rattle.query.specs.working.AnswerValues.{number_of, time_of, energy_of}
 
@@ -35,6 +34,6 @@ module _ {net : List ℕ} {s t limit time energy : ℕ} where
 
 -- a found pair has number 0
 pub found-zero :
-    {net : List ℕ} {s t limit : ℕ} {a : Answer} {time : Seconds} {energy : Energy} → a ≡ case.Found time energy →
-    Answers net s t limit (number_of a) (time_of a) (energy_of a) → Answers net s t limit 0 time.0 energy.0
+    {net : List ℕ} {s t limit : ℕ} {a : Result Pair NoAnswer} {best : Pair} → a ≡ Ok best →
+    Answers net s t limit (number_of a) (time_of a) (energy_of a) → Answers net s t limit 0 best.time.0 best.energy.0
 found-zero e answers = rw e at answers

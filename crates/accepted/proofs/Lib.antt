@@ -2,6 +2,7 @@
 pub mod Accepts
 pub mod CheckNumbers
 pub mod CheckUnique
+pub mod Refusals
 pub mod Accepted
 pub mod BatchSteps
 pub mod FoundPair

@@ -21,7 +21,7 @@ use Rattle.query.specs.working.Prepared.{Prepared}
 use Rattle.query.specs.working.Between.{Leads}
 use Rattle.routes.proofs.RouteWay.{alone-spends-none}
 use Rattle.tradeoffs.specs.working.Tells.{Tells}
-use Rattle.tradeoffs.specs.working.Written.{Counted, ListWritten}
+use Rattle.spans.specs.working.Written.{Counted, ListWritten}
 use Rattle.tradeoffs.proofs.Lists.{tells_right}
 use Rattle.accepted.specs.List.{ListAnswered, off_map, not_connected, no_room, listed}
 use Rattle.accepted.specs.working.ListPut.{ListPut, itself, too_long, put}

@@ -3,19 +3,17 @@
 use mathlib.Core.Path.{◌≡◌, refl, sym}
 use mathlib.Core.List.{List}
 use Prim.Native.Nat.{ℕ, ◌≤◌, ◌<◌}
-use native.Mathlib.Omega.{arith}
 use lib.ListN.{length, take}
 use lib.Seq.{length-take-le}
-use Rattle.paths.specs.declared.seconds.Seconds.{Seconds}
-use Rattle.paths.specs.declared.energy.Energy.{Energy}
+use Rattle.std.specs.Prelude.{Result, Ok}
+use Rattle.paths.specs.declared.pair.Pair.{Pair}
 use Rattle.paths.specs.Weights.{pair}
 use Rattle.refusals.specs.Lent.{filled}
-use Rattle.query.specs.declared.Answer.{Answer}
-use Rattle.query.specs.declared.Answer.TheVariants as case
+use Rattle.query.specs.declared.NoAnswer.{NoAnswer}
 use Rattle.query.specs.Answers.{Answers}
 use Rattle.query.specs.working.AnswerValues.{number_of, time_of, energy_of}
 use Rattle.routes.specs.working.Written.{RouteFound}
-use Rattle.accepted.specs.Route.{RouteAnswered, no_answer, no_room, routed}
+use Rattle.accepted.specs.Route.{RouteAnswered, no_room, routed}
 use Rattle.accepted.specs.working.RoutePut.{RoutePut, too_long, put}
 use Rattle.accepted.proofs.FoundPair.{found-zero}
 
@@ -36,21 +34,12 @@ module _ {net before places : List ℕ} {s t best_time best_energy count : ℕ} 
 
 -- ---- The answers
 
-module _ {net before : List ℕ} {s t limit : ℕ} {a : Answer} (answers : Answers net s t limit (number_of a) (time_of a) (energy_of a)) where
-  pub answered_off_map : a ≡ case.OffMap → RouteAnswered net s t limit before 21 0 0 0 before
-  answered_off_map e = no_answer (rw e at answers) (λ z. omega arith) refl refl
-
-  pub answered_not_connected : a ≡ case.NotConnected → RouteAnswered net s t limit before 22 0 0 0 before
-  answered_not_connected e = no_answer (rw e at answers) (λ z. omega arith) refl refl
-
-  pub answered-over-limit : a ≡ case.OverLimit → RouteAnswered net s t limit before 23 0 0 0 before
-  answered-over-limit e = no_answer (rw e at answers) (λ z. omega arith) refl refl
-
+module _ {net before : List ℕ} {s t limit : ℕ} {a : Result Pair NoAnswer} (answers : Answers net s t limit (number_of a) (time_of a) (energy_of a)) where
   -- a found pair is answered by what became of its route
   pub answered-found :
-      {best_time : Seconds} {best_energy : Energy} {number time energy count : ℕ} {after : List ℕ} →
-      a ≡ case.Found best_time best_energy →
-      RoutePut net s t best_time.0 best_energy.0 before number time energy count after →
+      {best : Pair} {number time energy count : ℕ} {after : List ℕ} →
+      a ≡ Ok best →
+      RoutePut net s t best.time.0 best.energy.0 before number time energy count after →
       RouteAnswered net s t limit before number time energy count after
   answered-found e (too_long first short refused) = no_room (found-zero e answers) first short refused
   answered-found e (put {route} first room n f g c now) = routed {route = route} (rw (f, g) (found-zero e answers)) (rw (f, g) first) room n c now

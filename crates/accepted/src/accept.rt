@@ -4,14 +4,17 @@ ghost use Rattle.std.specs.Prelude.{◌≡◌, length};
 ghost use Rattle.tables.specs.working.Layout.{table_places};
 ghost use Rattle.forest.specs.working.Fits.{DepthsFilled};
 ghost use Rattle.stored.specs.working.Formed.{StartsFilled, FilesFit, Tables};
+ghost use Rattle.accepted.specs.CheckRefusals.{check_number_of};
 ghost use Rattle.accepted.specs.working.Accepting.{Accepting};
 
+use crate::answers::CheckRefusal;
 use exact::sweep::exact;
-use files::form::labels_number;
-use network::network::net_number;
+use files::form::test_labels;
+use network::network::test_network;
 use network::roads::group_roads;
 use network::versions::version_one;
 use preorder::number::number;
+use stored::set::LabelSet;
 
 // What files that fit have in the lent table besides their starts: the roads at each junction, and the numbering.
 fn fill_tables(net: &[u8], labels: &[u8], depths: &[u32; 1024], tables: &mut [u32; 13312])
@@ -22,25 +25,30 @@ fn fill_tables(net: &[u8], labels: &[u8], depths: &[u32; 1024], tables: &mut [u3
     number(labels, depths, tables);
 }
 
-// The number of the check; at 0 the tables are filled.
-pub fn accept(net: &[u8], labels: &[u8], depths: &mut [u32; 1024], tables: &mut [u32; 13312]) -> u32
+// The check; where it accepts, the tables are filled.
+pub fn accept(
+    net: &[u8],
+    labels: &[u8],
+    depths: &mut [u32; 1024],
+    tables: &mut [u32; 13312],
+) -> Result<(), CheckRefusal>
     requires { (length depths.old ≡ 1024) × (length tables.old ≡ table_places) }
-    ensures { Accepting net.now labels.now result depths.new tables.new }
+    ensures { Accepting net.now labels.now (check_number_of result) depths.new tables.new }
 {
     // Made and used first of all, so that the compiler makes the frame at the start.
     let mut places: [u32; 1024] = [0; 1024];
     let mut marks: [u8; 4096] = [0; 4096];
-    let network = net_number(net, version_one());
-    if network != 0 {
-        return network;
-    }
-    let form = labels_number(net, labels, version_one(), depths, tables);
-    if form != 0 {
-        return form;
-    }
+    test_network(net, version_one())?;
+    test_labels(Some(net), labels, version_one(), depths, tables)?;
     fill_tables(net, labels, depths, tables);
-    if exact(net, labels, depths, tables, &mut places, &mut marks) {
-        return 0;
+    let set = LabelSet {
+        net,
+        labels,
+        depths,
+        tables,
+    };
+    if exact(set, &mut places, &mut marks) {
+        return Ok(());
     }
-    18
+    Err(CheckRefusal::WrongList)
 }

@@ -3,13 +3,10 @@ ghost use Rattle.std.specs.Prelude.{◌≡◌, ◌≤◌, length, take};
 ghost use Rattle.refusals.specs.Lent.{filled};
 
 // Fills the first places of a lent slice; later ones stay.
+#[tactic(auto, unfolding(refusals::specs::Lent::filled))]
 pub fn fill_first(places: &[u32; 1024], count: usize, lent: &mut [u32])
     requires { (length places.now ≡ 1024) × (count ≤ length places.now) × (count ≤ length lent.old) }
     ensures { lent.new ≡ filled lent.old (take count places.now) }
 {
-    let mut i = 0;
-    while i < count {
-        lent[i] = places[i];
-        i += 1;
-    }
+    lent[..count].copy_from_slice(&places[..count]);
 }

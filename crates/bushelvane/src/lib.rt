@@ -12,7 +12,8 @@ ghost use Rattle.labels.specs.List.{Listed};
 ghost use Rattle.accepted.specs.ListAnswers.{list_number_of, list_count_of};
 ghost use Rattle.labels.specs.Part.{PartShown};
 
-use labels::{JoinAnswer, ListAnswer, RouteAnswer, SumAnswer};
+use labels::{FoundRoute, JoinRefusal, ListRefusal, RouteRefusal, SumRefusal};
+use paths::pair::Pair;
 
 #[repr(C)]
 #[derive(Clone, Copy)]
@@ -65,34 +66,24 @@ pub extern "C" fn bushelvane_batch(
     labels::batch(net, labels, queries, answers)
 }
 
-fn route_values(answer: RouteAnswer) -> BestRoute
+// A refusal carries zeros beside its number.
+fn route_values(answer: Result<FoundRoute, RouteRefusal>) -> BestRoute
     ensures { (result.number ≡ route_number_of answer) × (result.time ≡ route_time_of answer) × (result.energy ≡ route_energy_of answer)
         × (result.count ≡ route_count_of answer) }
 {
     match answer {
-        RouteAnswer::Routed(time, energy, count) => BestRoute {
+        Ok(found) => BestRoute {
             number: 0,
-            time: time.0,
-            energy: energy.0,
-            count: count,
+            time: found.pair.time.0,
+            energy: found.pair.energy.0,
+            count: found.count,
         },
-        RouteAnswer::NotAccepted(number) => no_route(number),
-        RouteAnswer::OffMap => no_route(21),
-        RouteAnswer::NotConnected => no_route(22),
-        RouteAnswer::OverLimit => no_route(23),
-        RouteAnswer::NoRoom => no_route(24),
-    }
-}
-
-// A refusal carries zeros beside its number.
-fn no_route(number: u32) -> BestRoute
-    ensures { (result.number ≡ number) × (result.time ≡ 0) × (result.energy ≡ 0) × (result.count ≡ 0) }
-{
-    BestRoute {
-        number: number,
-        time: 0,
-        energy: 0,
-        count: 0,
+        Err(refusal) => BestRoute {
+            number: refusal.number(),
+            time: 0,
+            energy: 0,
+            count: 0,
+        },
     }
 }
 
@@ -112,27 +103,15 @@ pub extern "C" fn bushelvane_route(
     route_values(answer)
 }
 
-fn list_values(answer: ListAnswer) -> Count
+fn list_values(answer: Result<u32, ListRefusal>) -> Count
     ensures { (result.number ≡ list_number_of answer) × (result.count ≡ list_count_of answer) }
 {
     match answer {
-        ListAnswer::Listed(count) => Count {
-            number: 0,
-            count: count,
+        Ok(count) => Count { number: 0, count },
+        Err(refusal) => Count {
+            number: refusal.number(),
+            count: 0,
         },
-        ListAnswer::NotAccepted(number) => no_count(number),
-        ListAnswer::OffMap => no_count(21),
-        ListAnswer::NotConnected => no_count(22),
-        ListAnswer::NoRoom => no_count(24),
-    }
-}
-
-fn no_count(number: u32) -> Count
-    ensures { (result.number ≡ number) × (result.count ≡ 0) }
-{
-    Count {
-        number: number,
-        count: 0,
     }
 }
 
@@ -152,17 +131,15 @@ pub extern "C" fn bushelvane_list(
     list_values(answer)
 }
 
-fn join_values(answer: JoinAnswer) -> Count
+fn join_values(answer: Result<u32, JoinRefusal>) -> Count
     ensures { (result.number ≡ join_number_of answer) × (result.count ≡ join_count_of answer) }
 {
     match answer {
-        JoinAnswer::Joined(count) => Count {
-            number: 0,
-            count: count,
+        Ok(count) => Count { number: 0, count },
+        Err(refusal) => Count {
+            number: refusal.number(),
+            count: 0,
         },
-        JoinAnswer::LengthsDiffer => no_count(41),
-        JoinAnswer::IllFormed => no_count(42),
-        JoinAnswer::NoRoom => no_count(24),
     }
 }
 
@@ -190,28 +167,20 @@ pub extern "C" fn bushelvane_join(
     join_values(answer)
 }
 
-fn sum_values(answer: SumAnswer) -> Best
+fn sum_values(answer: Result<Pair, SumRefusal>) -> Best
     ensures { (result.number ≡ sum_number_of answer) × (result.time ≡ sum_time_of answer) × (result.energy ≡ sum_energy_of answer) }
 {
     match answer {
-        SumAnswer::Found(time, energy) => Best {
+        Ok(sum) => Best {
             number: 0,
-            time: time.0,
-            energy: energy.0,
+            time: sum.time.0,
+            energy: sum.energy.0,
         },
-        SumAnswer::LengthsDiffer => no_sum(41),
-        SumAnswer::IllFormed => no_sum(42),
-        SumAnswer::OverLimit => no_sum(23),
-    }
-}
-
-fn no_sum(number: u32) -> Best
-    ensures { (result.number ≡ number) × (result.time ≡ 0) × (result.energy ≡ 0) }
-{
-    Best {
-        number: number,
-        time: 0,
-        energy: 0,
+        Err(refusal) => Best {
+            number: refusal.number(),
+            time: 0,
+            energy: 0,
+        },
     }
 }
 
@@ -235,10 +204,8 @@ pub extern "C" fn bushelvane_show(labels: &[u8], v: u32, u: u32) -> Part
     ensures { PartShown labels.now v u result.at result.length }
 {
     let part = labels::show_part(labels, v, u);
-    let at = part.at;
-    let length = part.length;
     Part {
-        at: at,
-        length: length,
+        at: part.at,
+        length: part.length,
     }
 }

@@ -9,6 +9,7 @@ use native.Mathlib.Omega.{arith}
 use lib.Dec.{leb, eqb}
 use lib.ListN.{length}
 use borrow.Author.Tests.{ne_eqb, le-leb}
+use Rattle.std.specs.Prelude.{Result, Ok, Err}
 use Rattle.paths.specs.TradeOff.{IsTradeOff}
 use Rattle.paths.specs.Answer.{Apart}
 use Rattle.paths.proofs.Figures.{number_lawful}
@@ -16,11 +17,14 @@ use Rattle.paths.proofs.Unique.{trade_off_unique}
 use Rattle.refusals.specs.Lent.{filled, ListRefused}
 use Rattle.network.specs.NetworkFile.{network_of}
 use Rattle.lists.specs.Entries.{Weight, times, energies}
-use Rattle.accepted.specs.declared.ListAnswer.{ListAnswer}
-use Rattle.accepted.specs.declared.ListAnswer.TheVariants as case
+use Rattle.accepted.specs.declared.answers.CheckRefusal.{CheckRefusal}
+use Rattle.accepted.specs.declared.answers.ListRefusal.{ListRefusal}
+use Rattle.accepted.specs.declared.answers.ListRefusal.TheVariants as case
+use Rattle.accepted.specs.CheckRefusals.{check_refusal_number}
 use Rattle.accepted.specs.ListAnswers.{list_number_of, list_count_of, ListCase}
 use Rattle.accepted.specs.List.{ListAnswered, off_map, not_connected, no_room, listed}
 use Rattle.accepted.proofs.CheckUnique.{check_unique}
+use Rattle.accepted.proofs.Refusals.{refusal_of, refusal_rebuilt, some_number}
 use Rattle.labels.specs.List.{Listed, not_accepted, answered, ListDone}
 
 pub record SameList (number count : ℕ) (times_after energies_after : List ℕ) (number' count' : ℕ) (times_after' energies_after' : List ℕ) : Type 0 where
@@ -98,25 +102,27 @@ module _ {times_before energies_before : List ℕ} {number count number' count' 
 -- ---- The answer itself
 
 -- the answer that has a number and a count: 0 a list, up to 18 the check's refusal
-rebuilt : ℕ → ℕ → ListAnswer
+rebuilt : ℕ → ℕ → Result ℕ ListRefusal
 rebuilt number count =
-    cond (eqb number 0) (case.Listed count)
-    (cond (leb number 18) (case.NotAccepted number)
-    (cond (eqb number 21) case.OffMap
-    (cond (eqb number 22) case.NotConnected case.NoRoom)))
+    cond (eqb number 0) (Ok count)
+    (cond (leb number 18) (Err (case.NotAccepted (refusal_of number)))
+    (cond (eqb number 21) (Err case.OffMap)
+    (cond (eqb number 22) (Err case.NotConnected) (Err case.NoRoom))))
 
 -- an answer is the one that has its number and count
-answer_rebuilt : (net labels : List ℕ) (answer : ListAnswer) → ListCase net labels answer → answer ≡ rebuilt (list_number_of answer) (list_count_of answer)
+answer_rebuilt : (net labels : List ℕ) (answer : Result ℕ ListRefusal) → ListCase net labels answer → answer ≡ rebuilt (list_number_of answer) (list_count_of answer)
 unfolding rebuilt
-answer_rebuilt net labels (case.Listed count) is = refl
-answer_rebuilt net labels (case.NotAccepted number) is = rw (ne_eqb number 0 (λ z. omega (arith, is.some_number)), le-leb number 18 is.at_most)
-answer_rebuilt net labels case.OffMap is = refl
-answer_rebuilt net labels case.NotConnected is = refl
-answer_rebuilt net labels case.NoRoom is = refl
+answer_rebuilt net labels (Ok count) is = refl
+answer_rebuilt net labels (Err (case.NotAccepted refused)) is =
+    rw (ne_eqb (check_refusal_number refused) 0 (some_number refused), le-leb (check_refusal_number refused) 18 is.at_most)
+    (ap (λ (r : CheckRefusal). Err (case.NotAccepted r)) (refusal_rebuilt refused))
+answer_rebuilt net labels (Err case.OffMap) is = refl
+answer_rebuilt net labels (Err case.NotConnected) is = refl
+answer_rebuilt net labels (Err case.NoRoom) is = refl
 
 -- No second answer meets Trade-off list's statement
 pub list_answer_unique :
-    {net labels times_before energies_before times_after energies_after times_after' energies_after' : List ℕ} {s t : ℕ} {answer answer' : ListAnswer} →
+    {net labels times_before energies_before times_after energies_after times_after' energies_after' : List ℕ} {s t : ℕ} {answer answer' : Result ℕ ListRefusal} →
     ListDone net labels s t times_before energies_before answer times_after energies_after →
     ListDone net labels s t times_before energies_before answer' times_after' energies_after' →
     (answer ≡ answer') × (times_after ≡ times_after') × (energies_after ≡ energies_after')

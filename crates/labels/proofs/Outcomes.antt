@@ -7,15 +7,22 @@ use Prim.Native.Nat.{ℕ, ◌-◌, ◌/◌, ◌%◌, ◌≤◌, ◌<◌}
 use native.Mathlib.Omega.{arith}
 use lib.ListN.{length}
 use borrow.Author.Tests.{eq-eqb, ne_eqb, le-leb, lt-leb}
+use Rattle.std.specs.Prelude.{Result, Ok, Err}
 use Rattle.stored.specs.Stored.{list_place}
 use Rattle.stored.proofs.Places.{list-takes}
-use Rattle.files.specs.working.Span.{Spans, SpanFound}
-use Rattle.files.proofs.ShowLaws.{span_shown}
-use Rattle.accepted.specs.declared.RouteAnswer.{RouteAnswer}
-use Rattle.accepted.specs.declared.RouteAnswer.TheVariants as route
-use Rattle.accepted.specs.declared.ListAnswer.{ListAnswer}
-use Rattle.accepted.specs.declared.ListAnswer.TheVariants as list
-use Rattle.accepted.specs.Check.{Checked}
+use Rattle.std.specs.Prelude.{Option, unwrap_or}
+use Rattle.std.specs.declared.option.Option.TheVariants.{Some, None}
+use Rattle.std.specs.declared.ops.Range.{Range}
+use Rattle.files.specs.Shown.{Shows, nothing, bytes}
+use Rattle.files.specs.working.Span.{ListSpan, SpanFound}
+use Rattle.accepted.specs.declared.answers.CheckRefusal.{CheckRefusal}
+use Rattle.accepted.specs.declared.answers.FoundRoute.{FoundRoute}
+use Rattle.accepted.specs.declared.answers.RouteRefusal.{RouteRefusal}
+use Rattle.accepted.specs.declared.answers.RouteRefusal.TheVariants as route
+use Rattle.accepted.specs.declared.answers.ListRefusal.{ListRefusal}
+use Rattle.accepted.specs.declared.answers.ListRefusal.TheVariants as list
+use Rattle.accepted.specs.Check.{Checked, CheckRefused}
+use Rattle.accepted.specs.CheckRefusals.{check_refusal_number, check_number_of}
 use Rattle.accepted.specs.Route.{RouteAnswered}
 use Rattle.accepted.specs.RouteAnswers.{route_number_of, route_time_of, route_energy_of, route_count_of, RouteCase}
 use Rattle.accepted.specs.List.{ListAnswered}
@@ -25,6 +32,7 @@ use Rattle.accepted.specs.working.FromCheck.{route_from_check, list_from_check}
 use Rattle.accepted.specs.working.Triples.{AnsweredTo, Triples}
 use Rattle.accepted.proofs.Accepted.{check_passed}
 use Rattle.accepted.proofs.CheckNumbers.{check_refused}
+use Rattle.accepted.proofs.Refusals.{some_number}
 use Rattle.labels.specs.Batch.{shape_number, BatchDone, misshapen, not_accepted, answered}
 use Rattle.labels.specs.Route.{Routed, RouteDone}
 use Rattle.labels.specs.List.{Listed, ListDone}
@@ -85,72 +93,81 @@ module _ {net labels queries before : List ℕ} where
 
 module _ {net labels : List ℕ} (passed : Checked net labels 0) where
   -- an answer that is not the check's is one of an accepted set
-  route_case : (answer : RouteAnswer) → route_from_check answer ≡ false → RouteCase net labels answer
-  route_case (route.Routed time energy count) own = passed
-  route_case (route.NotAccepted number) own = absurd (false≢true (sym own))
-  route_case route.OffMap own = passed
-  route_case route.NotConnected own = passed
-  route_case route.OverLimit own = passed
-  route_case route.NoRoom own = passed
+  route_case : (answer : Result FoundRoute RouteRefusal) → route_from_check answer ≡ false → RouteCase net labels answer
+  route_case (Ok found) own = passed
+  route_case (Err (route.NotAccepted refused)) own = absurd (false≢true (sym own))
+  route_case (Err (route.NoAnswer why)) own = passed
+  route_case (Err route.NoRoom) own = passed
 
-  list_case : (answer : ListAnswer) → list_from_check answer ≡ false → ListCase net labels answer
-  list_case (list.Listed count) own = passed
-  list_case (list.NotAccepted number) own = absurd (false≢true (sym own))
-  list_case list.OffMap own = passed
-  list_case list.NotConnected own = passed
-  list_case list.NoRoom own = passed
+  list_case : (answer : Result ℕ ListRefusal) → list_from_check answer ≡ false → ListCase net labels answer
+  list_case (Ok count) own = passed
+  list_case (Err (list.NotAccepted refused)) own = absurd (false≢true (sym own))
+  list_case (Err list.OffMap) own = passed
+  list_case (Err list.NotConnected) own = passed
+  list_case (Err list.NoRoom) own = passed
 
 -- ---- Route and Trade-off list
 
-module _ {net labels depths tables : List ℕ} {number : ℕ} (accepting : Accepting net labels number depths tables) where
-  pub route_not_accepted :
-      {before : List ℕ} {s t limit : ℕ} → (number ≡ 0 → ⊥) → RouteDone net labels s t limit before (route.NotAccepted number) before
-  route_not_accepted some =
-      record {
-        gives =
-            Routed.not_accepted accepting.checked some
-            (record { number_is = refl; zero_time = refl; zero_energy = refl; no_count = refl; stays = refl });
-        case_is = check_refused accepting.checked some;
-      }
+module _ {net labels depths tables : List ℕ} {told : Result (Unit {0}) CheckRefusal} (accepting : Accepting net labels (check_number_of told) depths tables) where
+  module _ {refused : CheckRefusal} (is : told ≡ Err refused) where
+    -- a set that the check refuses
+    not_passed : CheckRefused net labels (check_refusal_number refused)
+    not_passed = check_refused (rw is at accepting.checked) (some_number refused)
 
-  pub route-answered :
-      {before after : List ℕ} {s t limit : ℕ} {answer : RouteAnswer} → number ≡ 0 →
-      RouteAnswered net s t limit before (route_number_of answer) (route_time_of answer) (route_energy_of answer) (route_count_of answer) after →
-      route_from_check answer ≡ false → RouteDone net labels s t limit before answer after
-  route-answered {answer = answer} none gives own =
-      let passed = check_passed accepting none in
-      record { gives = Routed.answered passed gives; case_is = route_case passed answer own }
+    pub route_not_accepted : {before : List ℕ} {s t limit : ℕ} → RouteDone net labels s t limit before (Err (route.NotAccepted refused)) before
+    route_not_accepted =
+        record {
+          gives =
+              Routed.not_accepted (rw is at accepting.checked) (some_number refused)
+              (record { number_is = refl; zero_time = refl; zero_energy = refl; no_count = refl; stays = refl });
+          case_is = not_passed;
+        }
 
-  pub list_not_accepted :
-      {times energies : List ℕ} {s t : ℕ} → (number ≡ 0 → ⊥) → ListDone net labels s t times energies (list.NotAccepted number) times energies
-  list_not_accepted some =
-      record {
-        gives =
-            Listed.not_accepted accepting.checked some (record { number_is = refl; no_count = refl; times_stay = refl; energies_stay = refl });
-        case_is = check_refused accepting.checked some;
-      }
+    pub list_not_accepted : {times energies : List ℕ} {s t : ℕ} → ListDone net labels s t times energies (Err (list.NotAccepted refused)) times energies
+    list_not_accepted =
+        record {
+          gives =
+              Listed.not_accepted (rw is at accepting.checked) (some_number refused)
+              (record { number_is = refl; no_count = refl; times_stay = refl; energies_stay = refl });
+          case_is = not_passed;
+        }
 
-  pub list-answered :
-      {times_before energies_before times_after energies_after : List ℕ} {s t : ℕ} {answer : ListAnswer} → number ≡ 0 →
-      ListAnswered net s t times_before energies_before (list_number_of answer) (list_count_of answer) times_after energies_after →
-      list_from_check answer ≡ false → ListDone net labels s t times_before energies_before answer times_after energies_after
-  list-answered {answer = answer} none gives own =
-      let passed = check_passed accepting none in
-      record { gives = Listed.answered passed gives; case_is = list_case passed answer own }
+  module _ {accepted : Unit {0}} (is : told ≡ Ok accepted) where
+    pub route-answered :
+        {before after : List ℕ} {s t limit : ℕ} {answer : Result FoundRoute RouteRefusal} →
+        RouteAnswered net s t limit before (route_number_of answer) (route_time_of answer) (route_energy_of answer) (route_count_of answer) after →
+        route_from_check answer ≡ false → RouteDone net labels s t limit before answer after
+    route-answered {answer = answer} gives own =
+        let passed : Checked net labels 0 = rw is at accepting.checked in
+        record { gives = Routed.answered passed gives; case_is = route_case passed answer own }
+
+    pub list-answered :
+        {times_before energies_before times_after energies_after : List ℕ} {s t : ℕ} {answer : Result ℕ ListRefusal} →
+        ListAnswered net s t times_before energies_before (list_number_of answer) (list_count_of answer) times_after energies_after →
+        list_from_check answer ≡ false → ListDone net labels s t times_before energies_before answer times_after energies_after
+    list-answered {answer = answer} gives own =
+        let passed : Checked net labels 0 = rw is at accepting.checked in
+        record { gives = Listed.answered passed gives; case_is = list_case passed answer own }
 
 -- ---- Show's part
 
--- a span as a place and a length: where some byte is shown the place is the list's, else it is 0
-pub part_shown :
-    {labels : List ℕ} {v u start end : ℕ} → SpanFound labels v u start end → PartShown labels v u start (end - start)
-part_shown {labels} {v} {u} {start} {end} found =
+-- the list that is found, as a place and a length
+pub part_of_list : {labels : List ℕ} {v u : ℕ} {span : Range ℕ} → ListSpan labels v u span → PartShown labels v u span.start (span.end - span.start)
+part_of_list {labels} {v} {u} {span} found =
     record {
-      shown = span_shown found refl;
+      shown = bytes found.shows (rw (found.from, found.to) refl);
       inside = omega (arith, found.rises, found.inside);
-      place = λ some. (pick found.spans).0 some;
-      empty = λ none-shown. (pick found.spans).1 none-shown;
+      place = λ some. found.from;
+      empty = λ none-shown. absurd (omega (arith, found.from, found.to, list-takes labels (list_place labels v u)));
     }
-  where
-    pick : Spans labels v u start end → (1 ≤ end - start → start ≡ list_place labels v u) × (end - start ≡ 0 → start ≡ 0)
-    pick (Spans.none h from to) = ((λ some. absurd (omega arith)), λ z. from)
-    pick (Spans.list h from to) = ((λ some. from), λ z. absurd (omega (arith, list-takes labels (list_place labels v u))))
+
+-- where there is none, the empty part at 0
+pub no_part : {labels : List ℕ} {v u : ℕ} → (Shows labels v u → ⊥) → PartShown labels v u 0 0
+no_part none = record { shown = nothing none refl; inside = omega arith; place = λ some. absurd (omega arith); empty = λ none-shown. refl }
+
+-- the span that is found, or none
+pub part_shown :
+    {labels : List ℕ} {v u : ℕ} (r : Option (Range ℕ)) {span : Range ℕ} → SpanFound labels v u r → span ≡ unwrap_or r (record { start = 0; end = 0 }) →
+    PartShown labels v u span.start (span.end - span.start)
+part_shown None found e = rw e (no_part found)
+part_shown (Some _) found e = rw e (part_of_list found)

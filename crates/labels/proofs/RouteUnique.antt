@@ -7,6 +7,7 @@ use native.Mathlib.Omega.{arith}
 use lib.Dec.{leb, eqb}
 use lib.ListN.{length}
 use borrow.Author.Tests.{ne_eqb, le-leb}
+use Rattle.std.specs.Prelude.{Result, Ok, Err}
 use Rattle.paths.specs.Weights.{pair}
 use Rattle.paths.specs.Route.{FirstRoute}
 use Rattle.paths.proofs.Route.{first_route_unique}
@@ -14,11 +15,16 @@ use Rattle.refusals.specs.Lent.{filled}
 use Rattle.network.specs.NetworkFile.{network_of}
 use Rattle.query.specs.Answers.{Answers}
 use Rattle.query.proofs.AnswersUnique.{answers_unique}
-use Rattle.accepted.specs.declared.RouteAnswer.{RouteAnswer}
-use Rattle.accepted.specs.declared.RouteAnswer.TheVariants as case
+use Rattle.query.specs.declared.NoAnswer.TheVariants as without
+use Rattle.accepted.specs.declared.answers.CheckRefusal.{CheckRefusal}
+use Rattle.accepted.specs.declared.answers.FoundRoute.{FoundRoute}
+use Rattle.accepted.specs.declared.answers.RouteRefusal.{RouteRefusal}
+use Rattle.accepted.specs.declared.answers.RouteRefusal.TheVariants as case
+use Rattle.accepted.specs.CheckRefusals.{check_refusal_number}
 use Rattle.accepted.specs.RouteAnswers.{route_number_of, route_time_of, route_energy_of, route_count_of, RouteCase}
 use Rattle.accepted.specs.Route.{RouteRefused, RouteAnswered, no_answer, no_room, routed}
 use Rattle.accepted.proofs.CheckUnique.{check_unique}
+use Rattle.accepted.proofs.Refusals.{refusal_of, refusal_rebuilt, some_number}
 use Rattle.labels.specs.Route.{Routed, not_accepted, answered, RouteDone}
 
 pub record SameRoute (number time energy count : ℕ) (after : List ℕ) (number' time' energy' count' : ℕ) (after' : List ℕ) : Type 0 where
@@ -99,29 +105,31 @@ module _ {before : List ℕ} {number time energy count number' time' energy' cou
 -- ---- The answer itself
 
 -- the answer that has a number and values: 0 a route, up to 18 the check's refusal
-rebuilt : ℕ → ℕ → ℕ → ℕ → RouteAnswer
+rebuilt : ℕ → ℕ → ℕ → ℕ → Result FoundRoute RouteRefusal
 rebuilt number time energy count =
-    cond (eqb number 0) (case.Routed (record { 0 = time }) (record { 0 = energy }) count)
-    (cond (leb number 18) (case.NotAccepted number)
-    (cond (eqb number 21) case.OffMap
-    (cond (eqb number 22) case.NotConnected
-    (cond (eqb number 23) case.OverLimit case.NoRoom))))
+    cond (eqb number 0) (Ok (record { pair = record { time = record { 0 = time }; energy = record { 0 = energy } }; count = count }))
+    (cond (leb number 18) (Err (case.NotAccepted (refusal_of number)))
+    (cond (eqb number 21) (Err (case.NoAnswer without.OffMap))
+    (cond (eqb number 22) (Err (case.NoAnswer without.NotConnected))
+    (cond (eqb number 23) (Err (case.NoAnswer without.OverLimit)) (Err case.NoRoom)))))
 
 -- an answer is the one that has its number and values
 answer_rebuilt :
-    (net labels : List ℕ) (answer : RouteAnswer) → RouteCase net labels answer →
+    (net labels : List ℕ) (answer : Result FoundRoute RouteRefusal) → RouteCase net labels answer →
     answer ≡ rebuilt (route_number_of answer) (route_time_of answer) (route_energy_of answer) (route_count_of answer)
 unfolding rebuilt
-answer_rebuilt net labels (case.Routed time energy count) is = refl
-answer_rebuilt net labels (case.NotAccepted number) is = rw (ne_eqb number 0 (λ z. omega (arith, is.some_number)), le-leb number 18 is.at_most)
-answer_rebuilt net labels case.OffMap is = refl
-answer_rebuilt net labels case.NotConnected is = refl
-answer_rebuilt net labels case.OverLimit is = refl
-answer_rebuilt net labels case.NoRoom is = refl
+answer_rebuilt net labels (Ok found) is = refl
+answer_rebuilt net labels (Err (case.NotAccepted refused)) is =
+    rw (ne_eqb (check_refusal_number refused) 0 (some_number refused), le-leb (check_refusal_number refused) 18 is.at_most)
+    (ap (λ (r : CheckRefusal). Err (case.NotAccepted r)) (refusal_rebuilt refused))
+answer_rebuilt net labels (Err (case.NoAnswer without.OffMap)) is = refl
+answer_rebuilt net labels (Err (case.NoAnswer without.NotConnected)) is = refl
+answer_rebuilt net labels (Err (case.NoAnswer without.OverLimit)) is = refl
+answer_rebuilt net labels (Err case.NoRoom) is = refl
 
 -- No second answer meets Route's statement
 pub route_answer_unique :
-    {net labels before after after' : List ℕ} {s t limit : ℕ} {answer answer' : RouteAnswer} →
+    {net labels before after after' : List ℕ} {s t limit : ℕ} {answer answer' : Result FoundRoute RouteRefusal} →
     RouteDone net labels s t limit before answer after → RouteDone net labels s t limit before answer' after' →
     (answer ≡ answer') × (after ≡ after')
 route_answer_unique {net} {labels} {answer = answer} {answer' = answer'} done done' =

@@ -1,6 +1,7 @@
 -- Route (SCOPE 5.3): the check's number refuses; on an accepted set it answers as `accepted/specs/Route.antt` says.
-use Rattle.std.specs.Prelude.{◌≡◌, List, ℕ}
-use Rattle.accepted.specs.declared.RouteAnswer.{RouteAnswer}
+use Rattle.std.specs.Prelude.{◌≡◌, List, ℕ, Result}
+use Rattle.accepted.specs.declared.answers.FoundRoute.{FoundRoute}
+use Rattle.accepted.specs.declared.answers.RouteRefusal.{RouteRefusal}
 use Rattle.accepted.specs.Check.{Checked}
 use Rattle.accepted.specs.Route.{RouteRefused, RouteAnswered}
 use Rattle.accepted.specs.RouteAnswers.{route_number_of, route_time_of, route_energy_of, route_count_of, RouteCase}
@@ -11,7 +12,7 @@ module _ (net labels : List ℕ) (s t limit : ℕ) (before : List ℕ) (number t
     not_accepted : Checked net labels number → (number ≡ 0 → ⊥) → RouteRefused before number time energy count after number → Routed
     answered : Checked net labels 0 → RouteAnswered net s t limit before number time energy count after → Routed
 
-module _ (net labels : List ℕ) (s t limit : ℕ) (before : List ℕ) (answer : RouteAnswer) (after : List ℕ) where
+module _ (net labels : List ℕ) (s t limit : ℕ) (before : List ℕ) (answer : Result FoundRoute RouteRefusal) (after : List ℕ) where
   -- The answer itself: what it gives, and that it is the case for it (SCOPE 5.3, 4.1)
   pub record RouteDone : Type 0 where
     pub gives :

@@ -14,11 +14,13 @@ ghost use Rattle.labels.specs.List.{ListDone};
 ghost use Rattle.labels.specs.Part.{PartShown};
 
 use accepted::accept::accept;
+pub use accepted::answers::{CheckRefusal, FoundRoute, ListRefusal, RouteRefusal};
 use accepted::batch::answer_all;
 use accepted::list::write_list;
 use accepted::route::answer_route;
-pub use accepted::{ListAnswer, RouteAnswer};
-pub use joins::{JoinAnswer, SumAnswer};
+pub use joins::{JoinRefusal, SumRefusal};
+use paths::pair::Pair;
+use stored::set::LabelSet;
 
 // A part of lent bytes: where it begins, and how many bytes it has.
 #[derive(Clone, Copy)]
@@ -33,11 +35,15 @@ pub fn check(net: &[u8], labels: &[u8]) -> u32
 {
     let mut depths: [u32; 1024] = [0; 1024];
     let mut tables: [u32; 13312] = [0; 13312];
-    accept(net, labels, &mut depths, &mut tables)
+    match accept(net, labels, &mut depths, &mut tables) {
+        Ok(()) => 0,
+        Err(refusal) => refusal.number(),
+    }
 }
 
 // Batch: triples s, t, limit in; for each a triple number, time, energy. A triple's 21, 22 or 23 refuses it alone. The call's own
-// number is 0, or 31 or 32 for slices of a wrong length, or the check's; then no answer is written.
+// number is 0, or 31 or 32 for slices of a wrong length, or the check's; then no answer is written. A number and no Result, as Check's:
+// it is what the call for C answers, and what the edit that refuses a batch by a triple's number shows.
 pub fn batch(net: &[u8], labels: &[u8], queries: &[u32], answers: &mut [u32]) -> u32
     ensures { BatchDone net.now labels.now queries.now answers.old result answers.new }
 {
@@ -53,11 +59,16 @@ pub fn batch(net: &[u8], labels: &[u8], queries: &[u32], answers: &mut [u32]) ->
     if answers.len() != length {
         return 32;
     }
-    let number = accept(net, labels, &mut depths, &mut tables);
-    if number != 0 {
-        return number;
+    if let Err(refusal) = accept(net, labels, &mut depths, &mut tables) {
+        return refusal.number();
     }
-    answer_all(net, labels, &depths, &tables, queries, length / 3, answers);
+    let set = LabelSet {
+        net,
+        labels,
+        depths: &depths,
+        tables: &tables,
+    };
+    answer_all(set, queries, length / 3, answers);
     0
 }
 
@@ -70,16 +81,19 @@ pub fn route(
     t: u32,
     limit: u32,
     junctions: &mut [u32],
-) -> RouteAnswer
+) -> Result<FoundRoute, RouteRefusal>
     ensures { RouteDone net.now labels.now s t limit junctions.old result junctions.new }
 {
     let mut depths: [u32; 1024] = [0; 1024];
     let mut tables: [u32; 13312] = [0; 13312];
-    let number = accept(net, labels, &mut depths, &mut tables);
-    if number != 0 {
-        return RouteAnswer::NotAccepted(number);
-    }
-    answer_route(net, labels, &depths, &tables, s, t, limit, junctions)
+    accept(net, labels, &mut depths, &mut tables)?;
+    let set = LabelSet {
+        net,
+        labels,
+        depths: &depths,
+        tables: &tables,
+    };
+    answer_route(set, s, t, limit, junctions)
 }
 
 // Trade-off list: every pair of s and t that no path's pair beats, energy rising, into the first places of two lent slices; how many,
@@ -91,17 +105,20 @@ pub fn list(
     t: u32,
     times: &mut [u32],
     energies: &mut [u32],
-) -> ListAnswer
+) -> Result<u32, ListRefusal>
     ensures { ListDone net.now labels.now s t times.old energies.old result
         times.new energies.new }
 {
     let mut depths: [u32; 1024] = [0; 1024];
     let mut tables: [u32; 13312] = [0; 13312];
-    let number = accept(net, labels, &mut depths, &mut tables);
-    if number != 0 {
-        return ListAnswer::NotAccepted(number);
-    }
-    write_list(net, labels, &depths, &tables, s, t, times, energies)
+    accept(net, labels, &mut depths, &mut tables)?;
+    let set = LabelSet {
+        net,
+        labels,
+        depths: &depths,
+        tables: &tables,
+    };
+    write_list(set, s, t, times, energies)
 }
 
 // Join: the unbeaten sums of two lists, each once, in order, into the first places of two lent slices; how many, or 41, 42, 24.
@@ -112,7 +129,7 @@ pub fn join(
     more_energies: &[u32],
     out_times: &mut [u32],
     out_energies: &mut [u32],
-) -> JoinAnswer
+) -> Result<u32, JoinRefusal>
     ensures { Join times.now energies.now more_times.now more_energies.now
         out_times.old out_energies.old (join_number_of result) (join_count_of result)
         out_times.new out_energies.new }
@@ -134,7 +151,7 @@ pub fn limited_join(
     more_times: &[u32],
     more_energies: &[u32],
     limit: u32,
-) -> SumAnswer
+) -> Result<Pair, SumRefusal>
     ensures { LimitedJoin times.now energies.now more_times.now more_energies.now
         limit (sum_number_of result) (sum_time_of result) (sum_energy_of result) }
 {
@@ -153,11 +170,9 @@ pub fn show(labels: &[u8], v: u32, u: u32) -> &[u8]
 pub fn show_part(labels: &[u8], v: u32, u: u32) -> Part
     ensures { PartShown labels.now v u result.at result.length }
 {
-    let span = files::show::span_of(labels, v, u);
-    let start = span.start;
-    let end = span.end;
+    let span = files::show::span_of(labels, v, u).unwrap_or(0..0);
     Part {
-        at: start,
-        length: end - start,
+        at: span.start,
+        length: span.end - span.start,
     }
 }

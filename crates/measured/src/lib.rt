@@ -15,19 +15,18 @@ ghost use Rattle.accepted.specs.working.Accepting.{Accepting};
 ghost use Rattle.accepted.specs.working.Triples.{Triples, AnsweredTo};
 ghost use Rattle.measured.specs.working.FormNumber.{FormNumber};
 
-use accepted::ListAnswer;
 use accepted::accept::accept;
 use accepted::batch::answer_all;
 use accepted::list::write_list;
 use files::form::labels_number;
 use joins::limited::limited_join;
-use joins::{JoinAnswer, SumAnswer};
 use network::network::net_number;
 use network::versions::version_one;
 use paths::energy::Energy;
+use paths::pair::Pair;
 use paths::seconds::Seconds;
-use query::Pair;
 use routes::route::route;
+use stored::set::LabelSet;
 use unbeaten::join::join;
 
 // What Join and Trade-off list answer, for a caller in Rust: the number of a refusal and no count, or 0 and the places filled.
@@ -103,20 +102,9 @@ pub extern "C" fn measured_join(
         out_times,
         out_energies,
     ) {
-        JoinAnswer::Joined(count) => MeasuredCount {
-            number: 0,
-            count: count,
-        },
-        JoinAnswer::LengthsDiffer => MeasuredCount {
-            number: 41,
-            count: 0,
-        },
-        JoinAnswer::IllFormed => MeasuredCount {
-            number: 42,
-            count: 0,
-        },
-        JoinAnswer::NoRoom => MeasuredCount {
-            number: 24,
+        Ok(count) => MeasuredCount { number: 0, count },
+        Err(refusal) => MeasuredCount {
+            number: refusal.number(),
             count: 0,
         },
     }
@@ -142,23 +130,13 @@ pub extern "C" fn measured_limited_join(
         result.energy }
 {
     match limited_join(times, energies, more_times, more_energies, limit) {
-        SumAnswer::Found(time, energy) => MeasuredBest {
+        Ok(sum) => MeasuredBest {
             number: 0,
-            time: time.0,
-            energy: energy.0,
+            time: sum.time.0,
+            energy: sum.energy.0,
         },
-        SumAnswer::LengthsDiffer => MeasuredBest {
-            number: 41,
-            time: 0,
-            energy: 0,
-        },
-        SumAnswer::IllFormed => MeasuredBest {
-            number: 42,
-            time: 0,
-            energy: 0,
-        },
-        SumAnswer::OverLimit => MeasuredBest {
-            number: 23,
+        Err(refusal) => MeasuredBest {
+            number: refusal.number(),
             time: 0,
             energy: 0,
         },
@@ -177,7 +155,10 @@ pub extern "C" fn measured_accept(
     requires { (length depths.old ≡ 1024) × (length tables.old ≡ table_places) }
     ensures { Accepting net.now labels.now result depths.new tables.new }
 {
-    accept(net, labels, depths, tables)
+    match accept(net, labels, depths, tables) {
+        Ok(()) => 0,
+        Err(refusal) => refusal.number(),
+    }
 }
 
 // A batch after the check. The answers are as many places as the queries, three to each of `count` triples.
@@ -195,7 +176,13 @@ pub extern "C" fn measured_answers(
     requires triples { Triples queries.now answers.old count }
     ensures { AnsweredTo net.now queries.now answers.old answers.new count }
 {
-    answer_all(net, labels, depths, tables, queries, count, answers);
+    let set = LabelSet {
+        net,
+        labels,
+        depths,
+        tables,
+    };
+    answer_all(set, queries, count, answers);
 }
 
 // The first route of an unbeaten pair, which bench/ takes from a batch.
@@ -220,7 +207,13 @@ pub extern "C" fn measured_route(
         time: Seconds(best.time),
         energy: Energy(best.energy),
     };
-    route(net, labels, depths, tables, s, t, whole, junctions)
+    let set = LabelSet {
+        net,
+        labels,
+        depths,
+        tables,
+    };
+    route(set, s, t, whole, junctions)
 }
 
 // The whole trade-off list of two junctions, counted and then written.
@@ -238,25 +231,16 @@ pub extern "C" fn measured_list(
     requires { Prepared net.now labels.now depths.now tables.now }
     ensures { ListAnswered net.now s t times.old energies.old result.number result.count times.new energies.new }
 {
-    match write_list(net, labels, depths, tables, s, t, times, energies) {
-        ListAnswer::Listed(count) => MeasuredCount {
-            number: 0,
-            count: count,
-        },
-        ListAnswer::NotAccepted(number) => MeasuredCount {
-            number: number,
-            count: 0,
-        },
-        ListAnswer::OffMap => MeasuredCount {
-            number: 21,
-            count: 0,
-        },
-        ListAnswer::NotConnected => MeasuredCount {
-            number: 22,
-            count: 0,
-        },
-        ListAnswer::NoRoom => MeasuredCount {
-            number: 24,
+    let set = LabelSet {
+        net,
+        labels,
+        depths,
+        tables,
+    };
+    match write_list(set, s, t, times, energies) {
+        Ok(count) => MeasuredCount { number: 0, count },
+        Err(refusal) => MeasuredCount {
+            number: refusal.number(),
             count: 0,
         },
     }

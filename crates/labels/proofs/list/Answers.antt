@@ -1,13 +1,11 @@
--- The check's number refuses; what follows the check is `write_list` of `accepted`.
+-- What follows the check is `write_list` of `accepted`.
+use Rattle.std.proofs.Common.{refl}
 use Rattle.accepted.proofs.Accepted.{ready_for_queries}
-use Rattle.labels.proofs.Outcomes.{list_not_accepted, list-answered}
+use Rattle.labels.proofs.Outcomes.{list-answered}
 use Rattle.labels.proofs.list.Goals as goal
 
-pub returns-then-number-ne0 : goal.returns-then-number-ne0
-returns-then-number-ne0 c = search (list_not_accepted)
-
 pub write_list-requires : goal.write_list-requires
-write_list-requires c = ready_for_queries c.accept-number.ensures c.if-number-ne0.false
+write_list-requires c = ready_for_queries c.in_ok-accept.ensures refl
 
 pub returns : goal.returns
-returns c = search (list-answered)
+returns c = list-answered c.accept.ensures c.in_ok-accept.was c.write_list.ensures.list_answered c.write_list.ensures.result_value

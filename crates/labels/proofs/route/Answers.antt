@@ -1,13 +1,11 @@
--- The check's number refuses; what follows the check is `answer_route` of `accepted`.
+-- What follows the check is `answer_route` of `accepted`.
+use Rattle.std.proofs.Common.{refl}
 use Rattle.accepted.proofs.Accepted.{ready_for_queries}
-use Rattle.labels.proofs.Outcomes.{route_not_accepted, route-answered}
+use Rattle.labels.proofs.Outcomes.{route-answered}
 use Rattle.labels.proofs.route.Goals as goal
 
-pub returns-then-number-ne0 : goal.returns-then-number-ne0
-returns-then-number-ne0 c = search (route_not_accepted)
-
 pub answer_route-requires : goal.answer_route-requires
-answer_route-requires c = ready_for_queries c.accept-number.ensures c.if-number-ne0.false
+answer_route-requires c = ready_for_queries c.in_ok-accept.ensures refl
 
 pub returns : goal.returns
-returns c = search (route-answered)
+returns c = route-answered c.accept.ensures c.in_ok-accept.was c.answer_route.ensures.route_answered c.answer_route.ensures.result_value
