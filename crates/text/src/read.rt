@@ -1,13 +1,22 @@
 // Lines, and the three numbers of a query line, read from bytes.
-ghost use Rattle.std.specs.Prelude.{◌≡◌, ◌≤◌, length, position, nat_eq};
-ghost use Rattle.text.specs.Lines.{newline_byte, LineEnds, line_of};
+ghost use Rattle.std.specs.Prelude.{◌≤◌, length};
+ghost use Rattle.text.specs.Lines.{LineEnds, line_of};
 ghost use Rattle.text.specs.working.Reading.{QueryRead};
-ghost use Rattle.text.specs.working.Reading.{Longer, DigitsRead, NumberRead, SpaceTold};
+ghost use Rattle.text.specs.working.Reading.{KindOf, Longer, DigitsRead, NumberRead, SpaceTold};
 
 use crate::Query;
 
 // The largest number of a line.
 const MOST: u64 = 4294967295;
+
+// What a byte is in a line: a digit with its value, one of the two other bytes that text is made of, or neither.
+#[derive(Clone, Copy)]
+enum Kind {
+    Digit(u64),
+    Space,
+    Newline,
+    Other,
+}
 
 // The digits from a byte on: where they end, and the number they spell, or one above MOST if it is above MOST.
 #[derive(Clone, Copy)]
@@ -16,23 +25,29 @@ struct Digits {
     next: usize,
 }
 
-// Where the first newline stands, in a function of its own, so that the search finds what the chain answers.
-fn newline_in(bytes: &[u8]) -> Option<usize>
-    ensures { result ≡ position (λ byte. nat_eq byte newline_byte) bytes.now }
+// Digits, the space and the newline are told apart; every other byte spoils its line.
+fn kind_of(byte: u8) -> Kind
+    ensures { KindOf byte result }
 {
-    bytes.iter().position(|byte| *byte == b'\n')
+    match byte {
+        b'0'..=b'9' => Kind::Digit(u64::from(byte) - 48),
+        b' ' => Kind::Space,
+        b'\n' => Kind::Newline,
+        _ => Kind::Other,
+    }
 }
 
 // The end of the line that starts at a byte: its newline, or the end of the input.
-#[tactic(auto, using(crate::proofs::LineSteps::newline_missing))]
 pub fn line_end(input: &[u8], start: usize) -> usize
     requires { start ≤ length input.now }
     ensures { LineEnds input.now start result }
 {
-    match newline_in(&input[start..]) {
-        Some(width) => start + width,
-        None => input.len(),
+    for end in start..input.len() {
+        if let Kind::Newline = kind_of(input[end]) {
+            return end;
+        }
     }
+    input.len()
 }
 
 // The number one digit longer; a number above MOST stays as it is, so that no run of digits is too long.
@@ -55,10 +70,10 @@ fn read_digits(input: &[u8], start: usize, end: usize) -> Digits
 {
     let mut value = 0;
     for next in start..end {
-        let digit @ b'0'..=b'9' = input[next] else {
+        let Kind::Digit(digit) = kind_of(input[next]) else {
             return Digits { value, next };
         };
-        value = longer(value, u64::from(digit - b'0'));
+        value = longer(value, digit);
     }
     Digits { value, next: end }
 }
@@ -83,7 +98,7 @@ fn space_at(input: &[u8], at: usize, end: usize) -> bool
     requires { (at ≤ end) × (end ≤ length input.now) }
     ensures { SpaceTold input.now at end result }
 {
-    at < end && input[at] == b' '
+    at < end && matches!(kind_of(input[at]), Kind::Space)
 }
 
 // The three numbers of a query line, or none if it is bad.

@@ -1,14 +1,29 @@
--- What the reader of lines knows on its way: the digits read so far, the number they make, the space behind it.
-use Rattle.std.specs.Prelude.{◌≡◌, Bool, true, false, List, ℕ, ◌+◌, ◌*◌, ◌≤◌, ◌<◌, length, get_or}
-use Rattle.text.specs.Numbers.{space_byte, value_after, IsDigit, IsNumeral}
-use Rattle.text.specs.Lines.{line_of}
+-- What the reader of lines knows on its way: the kind of a byte, the digits read so far, the number they make, the space behind it.
+use Rattle.std.specs.Prelude.{◌≡◌, Bool, true, false, List, ℕ, ◌+◌, ◌-◌, ◌*◌, ◌≤◌, ◌<◌, length, get_or}
+use Rattle.text.specs.Numbers.{zero_byte, space_byte, value_after, IsDigit, IsNumeral}
+use Rattle.text.specs.Lines.{newline_byte, line_of}
 use Rattle.text.specs.Queries.{IsQuery, BadLine}
 use Rattle.std.specs.declared.option.Option.{Option}
 use Rattle.std.specs.declared.option.Option.TheVariants.{Some, None}
 use Rattle.text.specs.declared.Query.{Query}
+use Rattle.text.specs.declared.read.Kind.{Kind}
+use Rattle.text.specs.declared.read.Kind.TheVariants as kind
 
 abbrev pub most_number : ℕ
 most_number = 4294967295
+
+-- Digits, the space and the newline are told apart; any other byte spoils its line
+pub data KindOf (byte : ℕ) (r : Kind) : Type 0 where
+  digit : IsDigit byte → r ≡ kind.Digit (byte - zero_byte) → KindOf byte r
+  space : byte ≡ space_byte → r ≡ kind.Space → KindOf byte r
+  newline : byte ≡ newline_byte → r ≡ kind.Newline → KindOf byte r
+  other : (IsDigit byte → ⊥) → (byte ≡ space_byte → ⊥) → (byte ≡ newline_byte → ⊥) → r ≡ kind.Other → KindOf byte r
+
+-- No newline stands from the line's start to a byte
+pub record NoNewline (input : List ℕ) (start to : ℕ) : Type 0 where
+  pub forward : start ≤ to
+  pub inside : to ≤ length input
+  pub none : (i : ℕ) → start ≤ i → i < to → get_or input i 0 ≡ newline_byte → ⊥
 
 -- A value takes one digit more, unless it is too large already
 pub record Longer (value digit r : ℕ) : Type 0 where
