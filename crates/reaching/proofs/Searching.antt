@@ -24,7 +24,7 @@ use Rattle.query.specs.working.Levels.{LevelSum}
 use Rattle.query.specs.working.Sums.{FittingFrom}
 use Rattle.query.proofs.ListPlaces.{entry, energies_rise, times_fall}
 use Rattle.query.proofs.Rows.{Along, along-none, along_all}
-use Rattle.reaching.specs.working.Searched.{HasWithin, SumUp, CoversAt, NoSum}
+use Rattle.reaching.specs.working.Searched.{HasWithin, SumUp, CoversAt, NoSum, Tried}
 
 -- false is not true
 pub not_both : {A : Type 0} → ◌≡◌ {A = Bool} false true → A
@@ -212,6 +212,22 @@ module _ {labels marks : List ℕ} {level near far most_time most_energy : ℕ} 
 
           two : Stands (entry labels far) (count_at labels far) here.sum.right
           two = member-stands (entry labels far) (count_at labels far) here.sum.in_second
+
+  -- none is tried where no sum covers the pair
+  pub tried-none :
+      Decides (HasWithin (LevelSum labels marks level near far) (pair most_time most_energy)) false →
+      Tried labels marks level near far (pair most_time most_energy) 0
+  tried-none nothing = record { marked = λ h. absurd (omega arith); few = omega arith; others = λ h. nothing.fails refl }
+
+  -- a level whose entries were all tried
+  pub level_tried :
+      {i j count : ℕ} → Pairing labels near far most_time most_energy i j → count ≤ i → Tried labels marks level near far (pair most_time most_energy) count →
+      HasWithin (LevelSum labels marks level near far) (pair most_time most_energy) → ⊥
+  level_tried {i} {j} {count} now h tried z = pick (dec_le (count_at labels near) count)
+    where
+      pick : Dec (count_at labels near ≤ count) → ⊥
+      pick (yes all) = (level-none (pairing_end now (omega arith))).fails refl z
+      pick (no fewer) = tried.others (omega arith) z
 
   -- a sum at a marked level
   pub level-found :

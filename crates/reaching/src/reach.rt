@@ -12,7 +12,7 @@ ghost use Rattle.query.specs.working.AnswerFrom.{EntryOf};
 ghost use Rattle.query.specs.working.Levels.{LevelSum};
 ghost use Rattle.query.specs.working.Sums.{RowFits};
 ghost use Rattle.reaching.specs.working.Reach.{PathWithin, weight_of};
-ghost use Rattle.reaching.specs.working.Searched.{HasWithin, SumUp, CoversAt, NoSum, Held};
+ghost use Rattle.reaching.specs.working.Searched.{HasWithin, SumUp, CoversAt, NoSum, Tried, Held};
 
 use hoplinks::hoplinks::mark_hoplinks;
 use paths::energy::Energy;
@@ -93,28 +93,19 @@ fn covers(lists: ListPair<'_>, i: usize, j: usize, time: Seconds) -> bool
     j > 0 && sum_at(lists, i, j - 1).time <= time
 }
 
-// Whether a sum at a level takes no more than the pair: it is searched where the level is marked and its lists may cover the pair.
-fn level_covers(lists: ListPair<'_>, marks: &[u8; 1024], level: usize, most: Pair) -> bool
+// How many entries of the near list are tried at a level: all where it is marked and its lists may cover the pair, else none.
+fn entries_tried(lists: ListPair<'_>, marks: &[u8; 1024], level: usize, most: Pair) -> usize
     requires { level < 1024 }
-    ensures { Decides (HasWithin (LevelSum lists.entry.labels.now marks.now level lists.entry.near lists.entry.far) (weight_of most)) result }
+    ensures { Tried lists.entry.labels.now marks.now level lists.entry.near lists.entry.far (weight_of most) result }
 {
     if marks[level] != 1 || !may_cover(lists, most) {
-        return false;
+        return 0;
     }
-    let near = lists.near();
-    let far = lists.far();
-    let mut j = far.count();
-    for i in 0..near.count() {
-        j = fitting_from(far, near.energy(i), most.energy, j);
-        if covers(lists, i, j, most.time) {
-            return true;
-        }
-    }
-    false
+    lists.near().count()
 }
 
 // Whether a sum at a marked level takes no more than the pair: the lists at two bytes are those for the deepest level, and behind them
-// stand those for the levels above it.
+// stand those for the levels above it. The search stops at the first entry that covers the pair, out of both loops.
 fn search_levels(
     labels: &[u8],
     marks: &[u8; 1024],
@@ -129,19 +120,25 @@ fn search_levels(
 {
     let mut near_place = Place { at: near };
     let mut far_place = Place { at: far };
-    for level in (0..levels).rev() {
+    let mut found = false;
+    'search: for level in (0..levels).rev() {
         let lists = ListPair {
             labels,
             near: near_place.at,
             far: far_place.at,
         };
-        if level_covers(lists, marks, level as usize, most) {
-            return true;
+        let mut j = lists.far().count();
+        for i in 0..entries_tried(lists, marks, level as usize, most) {
+            j = fitting_from(lists.far(), lists.near().energy(i), most.energy, j);
+            if covers(lists, i, j, most.time) {
+                found = true;
+                break 'search;
+            }
         }
         near_place = near_place.next(labels);
         far_place = far_place.next(labels);
     }
-    false
+    found
 }
 
 // Whether a path between two junctions takes no more than the pair.

@@ -1,5 +1,5 @@
 -- What the search for an entry that covers a pair tells its callers.
-use Rattle.std.specs.Prelude.{◌≡◌, List, ℕ, ◌+◌, ◌-◌, ◌≤◌, ◌<◌, length, Some}
+use Rattle.std.specs.Prelude.{◌≡◌, List, ℕ, ◌+◌, ◌-◌, ◌≤◌, ◌<◌, length, get_or, Some}
 use Rattle.paths.specs.Weights.{weights, energy}
 use Rattle.lists.specs.Entries.{Weight}
 use Rattle.forest.specs.LabelFile.{count_at, time_at, energy_at}
@@ -30,6 +30,12 @@ pub record NoSum (labels : List ℕ) (near far most_time most_energy : ℕ) : Ty
   pub none :
       (i k : ℕ) → i < count_at labels near → k < count_at labels far → time_at labels near i + time_at labels far k ≤ most_time →
       energy_at labels near i + energy_at labels far k ≤ most_energy → ⊥
+
+-- How many entries of the near list are tried at a level: some only where it is marked, and fewer than all only where no sum at it takes no more than p
+pub record Tried (labels marks : List ℕ) (level near far : ℕ) (p : Weight) (count : ℕ) : Type 0 where
+  pub marked : 0 < count → get_or marks level 0 ≡ 1
+  pub few : count ≤ count_at labels near
+  pub others : count < count_at labels near → HasWithin (LevelSum labels marks level near far) p → ⊥
 
 -- The hoplinks of the junction held are marked, if one is held
 pub record Held (net labels : List ℕ) (hoplinks : Hoplinks) : Type 0 where
