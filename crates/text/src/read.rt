@@ -25,7 +25,7 @@ struct Digits {
     next: usize,
 }
 
-// Digits, the space and the newline are told apart; every other byte spoils its line.
+// A digit with its value, the space or the newline; any other byte spoils its line.
 fn kind_of(byte: u8) -> Kind
     ensures { KindOf byte result }
 {
