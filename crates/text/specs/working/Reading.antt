@@ -12,7 +12,7 @@ use Rattle.text.specs.declared.read.Kind.TheVariants as kind
 abbrev pub most_number : ℕ
 most_number = 4294967295
 
--- Digits, the space and the newline are told apart; any other byte spoils its line
+-- A byte is a digit with its value, the space, the newline, or none of them
 pub data KindOf (byte : ℕ) (r : Kind) : Type 0 where
   digit : IsDigit byte → r ≡ kind.Digit (byte - zero_byte) → KindOf byte r
   space : byte ≡ space_byte → r ≡ kind.Space → KindOf byte r
