@@ -105,25 +105,21 @@ fn at_level(lists: ListPair<'_>, limit: Energy, best: Best) -> Best
     if far_count == 0 {
         return best;
     }
-    let known = best.sum;
+    // Both lists have an entry, so there is a sum.
+    let mut seen = Best {
+        connected: true,
+        sum: best.sum,
+    };
     let cheapest = sum_at(lists, 0, 0);
     if limit < cheapest.energy {
-        return Best {
-            connected: true,
-            sum: known,
-        };
+        return seen;
     }
     let quickest = sum_at(lists, near_count - 1, far_count - 1);
-    if too_long(quickest.time, known.time) {
-        return Best {
-            connected: true,
-            sum: known,
-        };
+    if too_long(quickest.time, seen.sum.time) {
+        return seen;
     }
-    Best {
-        connected: true,
-        sum: walk(lists, limit, known),
-    }
+    seen.sum = walk(lists, limit, seen.sum);
+    seen
 }
 
 // The lists at two bytes and those behind them, so many on each side: what is known of the best is taken further level by level.

@@ -19,8 +19,8 @@ returns-then-too_long c =
     let far_count = rw (c.far.ensures.labels_is, c.far.ensures.at_is) at c.count-far_count.ensures.value in
     level-slow near_count far_count c.if-near_count-eq0.false c.if-far_count-eq0.false c.args.lists.near_fits c.args.lists.far_fits c.sum_at-quickest.ensures c.too_long.ensures c.if-too_long.true refl refl
 
-pub walk-requires : goal.walk-requires
-walk-requires c =
+pub walk-seen-requires : goal.walk-seen-requires
+walk-seen-requires c =
     let near_count = rw (c.near.ensures.labels_is, c.near.ensures.at_is) at c.count-near_count.ensures.value in
     let far_count = rw (c.far.ensures.labels_is, c.far.ensures.at_is) at c.count-far_count.ensures.value in
     level_worth near_count far_count c.if-near_count-eq0.false c.if-far_count-eq0.false c.args.lists.near_fits c.args.lists.far_fits c.sum_at-quickest.ensures c.too_long.ensures c.if-too_long.false
@@ -29,4 +29,4 @@ pub returns : goal.returns
 returns c =
     let near_count = rw (c.near.ensures.labels_is, c.near.ensures.at_is) at c.count-near_count.ensures.value in
     let far_count = rw (c.far.ensures.labels_is, c.far.ensures.at_is) at c.count-far_count.ensures.value in
-    level_walked near_count far_count c.if-near_count-eq0.false c.if-far_count-eq0.false refl c.walk.ensures
+    level_walked near_count far_count c.if-near_count-eq0.false c.if-far_count-eq0.false refl c.walk-seen.ensures
