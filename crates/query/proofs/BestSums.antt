@@ -2,10 +2,8 @@
 -- lists; the walk along two lists; where it starts; one level.
 use mathlib.Core.Path.{◌≡◌, refl, sym, ap, ◌∙◌}
 use mathlib.Core.Logic.{◌⊎◌, inl, inr, ⊎_elim}
-use mathlib.Core.Bool.{Bool, true, false}
+use mathlib.Core.Bool.{Bool, true, false, true≢false}
 use mathlib.Core.List.{List}
-use Rattle.std.specs.Prelude.{Result, Ok, Err}
-use Rattle.std.specs.Result.{result_or, result_unwrap_or}
 use Prim.Native.Nat.{ℕ, suc, ◌+◌, ◌-◌, ◌≤◌, ◌<◌}
 use native.Mathlib.Decide.{ℕ_discrete, dec_le}
 use native.Mathlib.Omega.{arith}
@@ -14,13 +12,12 @@ use borrow.Author.Tests.{ltb-false, ltb-true}
 use Rattle.paths.specs.Weights.{energy, spent, Within, Sooner, NotLater, same, sooner, by_time}
 use Rattle.paths.proofs.Figures.{number_lawful}
 use Rattle.paths.proofs.Weights.{not_later_refl, not_later_trans}
-use Rattle.paths.specs.declared.pair.Pair.{Pair}
 use Rattle.lists.specs.Entries.{Weight}
 use Rattle.lists.proofs.Walk.{pair_is}
 use Rattle.forest.specs.LabelFile.{count_at, time_at, energy_at}
 use Rattle.stored.specs.working.Formed.{ListFits}
-use Rattle.query.specs.declared.NoAnswer.{NoAnswer}
-use Rattle.query.specs.declared.NoAnswer.TheVariants.{OverLimit}
+use Rattle.query.specs.declared.across.Sum.{Sum}
+use Rattle.query.specs.declared.across.Best.{Best}
 use Rattle.query.specs.working.Sums.{FittingFrom, SlowBefore, sum_of, SumIn, Only, pair_of, SumIs, Placed, Improves, SomeSum, Extends, WalkStart, WorthWalking}
 use Rattle.query.proofs.ListPlaces.{energies_rise, times_fall}
 
@@ -57,82 +54,21 @@ module _ {labels : List ℕ} {near far C : ℕ} {q : Weight} where
 
 module _ {labels : List ℕ} {Lists : ℕ → ℕ → Type 0} {C : ℕ} where
   -- where no sum within C comes before it
-  pub improves-kept : {known : Pair} → ((p : Weight) → SumIn labels Lists p → Within energy C p → NotLater energy (pair_of known) p) → Improves labels Lists C known known
+  pub improves-kept : {known : Sum} → ((p : Weight) → SumIn labels Lists p → Within energy C p → NotLater energy (pair_of known) p) → Improves labels Lists C known known
   improves-kept {known} least = record { no_later = not_later_refl number_lawful (pair_of known); least = least; origin = inl refl }
 
   -- where there is no sum
-  pub extends_kept : {known : Result Pair NoAnswer} → (SomeSum labels Lists → ⊥) → Extends labels Lists C known known
+  pub extends_kept : {known : Best} → (SomeSum labels Lists → ⊥) → Extends labels Lists C known known
   extends_kept none =
       record {
-        no_later = λ p h. h;
-        least = λ p h w. absurd (none (record { one = p; among = h }));
-        origin = λ best e. inl e;
-        over = inl;
+        improves = improves-kept (λ p h w. absurd (none (record { one = p; among = h })));
+        connected = inl;
         apart = λ e. (e, none);
-        off_map = λ e. e;
       }
 
-  -- where there is one, and none within C
-  pub extends_over :
-      (known : Result Pair NoAnswer) {r : Result Pair NoAnswer} → SomeSum labels Lists → ((p : Weight) → SumIn labels Lists p → Within energy C p → ⊥) →
-      r ≡ result_or known (Err OverLimit) → Extends labels Lists C known r
-  extends_over (Ok best) some none e =
-      record {
-        no_later = λ p h. rw e h;
-        least = λ p h w. absurd (none p h w);
-        origin = λ best' f. inl (sym e ∙ f);
-        over = λ f. absurd (cc);
-        apart = λ f. absurd (cc);
-        off_map = λ f. absurd (cc);
-      }
-  extends_over (Err why) some none e =
-      record {
-        no_later = λ p h. let f = h.is in absurd (cc);
-        least = λ p h w. absurd (none p h w);
-        origin = λ best' f. absurd (cc);
-        over = λ f. inr some;
-        apart = λ f. absurd (cc);
-        off_map = λ f. absurd (cc);
-      }
-
-  -- where one is within C: it is what is known if nothing was, and the best of it and of all is found
-  pub extends-found :
-      (known : Result Pair NoAnswer) {r : Result Pair NoAnswer} {one from best : Pair} → Placed labels Lists C one → from ≡ result_unwrap_or known one →
-      Improves labels Lists C from best → r ≡ Ok best → Extends labels Lists C known r
-  extends-found (Ok before) {best = best} placed e improves f =
-      record {
-        no_later =
-            λ p h.
-            let same : h.best ≡ before = cc (h.is) in
-            record { best = best; is = f; no_later = not_later_trans number_lawful (rw e at improves.no_later) (rw same at h.no_later) };
-        least = λ p h w. record { best = best; is = f; no_later = improves.least p h w };
-        origin =
-            λ best' g.
-            let same : best ≡ best' = cc in
-            ⊎_elim (λ k. let z : before ≡ best' = cc in inl (ap Ok z)) (λ z. inr (rw same at z)) improves.origin;
-        over = λ g. absurd (cc);
-        apart = λ g. absurd (cc);
-        off_map = λ g. absurd (cc);
-      }
-  extends-found (Err why) {one = one} {best = best} placed e improves f =
-      record {
-        no_later = λ p h. let g = h.is in absurd (cc);
-        least = λ p h w. record { best = best; is = f; no_later = improves.least p h w };
-        origin =
-            λ best' g.
-            let same : best ≡ best' = cc in
-            ⊎_elim (λ k. let z : one ≡ best' = cc in inr (rw z at placed)) (λ z. inr (rw same at z)) improves.origin;
-        over = λ g. absurd (cc);
-        apart = λ g. absurd (cc);
-        off_map = λ g. absurd (cc);
-      }
-
--- what a level begins with: what is known, or else a sum of its own
-pub known_from : {known : Result Pair NoAnswer} {best : Pair} (other : Pair) → known ≡ Ok best → best ≡ result_unwrap_or known other
-known_from other e = rw e refl
-
-pub known_none : {known : Result Pair NoAnswer} {why : NoAnswer} (other : Pair) → known ≡ Err why → other ≡ result_unwrap_or known other
-known_none other e = rw e refl
+  -- where there is one, it is seen
+  pub extends_seen : {known r : Best} → SomeSum labels Lists → r.connected ≡ true → Improves labels Lists C known.sum r.sum → Extends labels Lists C known r
+  extends_seen some e improves = record { improves = improves; connected = λ f. inr some; apart = λ f. absurd (true≢false (sym e ∙ f)) }
 
 -- ---- More lists
 
@@ -149,8 +85,8 @@ sum_more more h = record { near = h.near; far = h.far; i = h.i; j = h.j; lists =
 some_more : {labels : List ℕ} {P R : ℕ → ℕ → Type 0} → ((n f : ℕ) → P n f → R n f) → SomeSum labels P → SomeSum labels R
 some_more more some = record { one = some.one; among = sum_more more some.among }
 
-placed-more : {labels : List ℕ} {P R : ℕ → ℕ → Type 0} {C : ℕ} {sum : Pair} → ((n f : ℕ) → P n f → R n f) → Placed labels P C sum → Placed labels R C sum
-placed-more more h = record { stands = sum_more more h.stands; within = h.within }
+placed-more : {labels : List ℕ} {P R : ℕ → ℕ → Type 0} {C : ℕ} {sum : Sum} → ((n f : ℕ) → P n f → R n f) → Placed labels P C sum → Placed labels R C sum
+placed-more {sum = sum} more h = record { lists = more sum.near sum.far h.lists; stands = h.stands; within = h.within }
 
 module _ {labels : List ℕ} {R P Q : ℕ → ℕ → Type 0} (parts : ListParts R P Q) where
   -- it is of one part or of the other
@@ -161,25 +97,30 @@ module _ {labels : List ℕ} {R P Q : ℕ → ℕ → Type 0} (parts : ListParts
       (λ z. inr (record { near = h.near; far = h.far; i = h.i; j = h.j; lists = z; sum = h.sum }))
       (parts.cases h.near h.far h.lists)
 
+  improves_then : {C : ℕ} {known middle r : Sum} → Improves labels P C known middle → Improves labels Q C middle r → Improves labels R C known r
+  improves_then {C} {known} {middle} {r} one two =
+      record {
+        no_later = not_later_trans number_lawful two.no_later one.no_later;
+        least =
+            λ p h w.
+            ⊎_elim (λ here. not_later_trans number_lawful two.no_later (one.least p here w)) (λ there. two.least p there w) (sum_cases h);
+        origin = ⊎_elim before (λ z. inr (placed-more parts.second z)) two.origin;
+      }
+    where
+      before : r ≡ middle → (r ≡ known) ⊎ Placed labels R C r
+      before e = ⊎_elim (λ f. inl (e ∙ f)) (λ z. inr (rw e (placed-more parts.first z))) one.origin
+
   -- what is known after both parts
-  pub extends_then :
-      {C : ℕ} {known middle r : Result Pair NoAnswer} → Extends labels P C known middle → Extends labels Q C middle r → Extends labels R C known r
+  pub extends_then : {C : ℕ} {known middle r : Best} → Extends labels P C known middle → Extends labels Q C middle r → Extends labels R C known r
   extends_then one two =
       record {
-        no_later = λ p h. two.no_later p (one.no_later p h);
-        least = λ p h w. ⊎_elim (λ here. two.no_later p (one.least p here w)) (λ there. two.least p there w) (sum_cases h);
-        origin =
-            λ best e.
-            ⊎_elim
-            (λ f. ⊎_elim inl (λ z. inr (placed-more parts.first z)) (one.origin best f))
-            (λ z. inr (placed-more parts.second z))
-            (two.origin best e);
-        over =
+        improves = improves_then one.improves two.improves;
+        connected =
             λ e.
             ⊎_elim
-            (λ f. ⊎_elim inl (λ some. inr (some_more parts.first some)) (one.over f))
+            (λ f. ⊎_elim inl (λ some. inr (some_more parts.first some)) (one.connected f))
             (λ some. inr (some_more parts.second some))
-            (two.over e);
+            (two.connected e);
         apart =
             λ e.
             let late = two.apart e in
@@ -191,13 +132,12 @@ module _ {labels : List ℕ} {R P Q : ℕ → ℕ → Type 0} (parts : ListParts
                   (λ z. late.1 (record { one = some.one; among = z }))
                   (sum_cases some.among),
             );
-        off_map = λ e. one.off_map (two.off_map e);
       }
 
 -- ---- The walk along two lists
 
 -- Before place i the near entries are done, and beside a later one no far entry from place j on fits
-pub record Walked (labels : List ℕ) (near far C : ℕ) (known : Pair) (i j : ℕ) (best : Pair) : Type 0 where
+pub record Walked (labels : List ℕ) (near far C : ℕ) (known : Sum) (i j : ℕ) (best : Sum) : Type 0 where
   pub in_near : i ≤ count_at labels near
   pub in_far : j ≤ count_at labels far
   pub no_later : NotLater energy (pair_of best) (pair_of known)
@@ -207,7 +147,7 @@ pub record Walked (labels : List ℕ) (near far C : ℕ) (known : Pair) (i j : �
   pub origin : (best ≡ known) ⊎ Placed labels (Only near far) C best
 
 -- at first those that are too slow are done
-pub walk_starts : {labels : List ℕ} {near far C i j : ℕ} {known : Pair} → WalkStart labels near far C i j known → Walked labels near far C known i j known
+pub walk_starts : {labels : List ℕ} {near far C i j : ℕ} {known : Sum} → WalkStart labels near far C i j known → Walked labels near far C known i j known
 walk_starts {known = known} start =
     record {
       in_near = start.in_near;
@@ -218,7 +158,7 @@ walk_starts {known = known} start =
       origin = inl refl;
     }
 
-module _ {labels : List ℕ} {near far C i j : ℕ} {known best : Pair} (now : Walked labels near far C known i j best) where
+module _ {labels : List ℕ} {near far C i j : ℕ} {known best : Sum} (now : Walked labels near far C known i j best) where
   -- no sum of a later near entry comes before the best
   walk_done :
       ((a b : ℕ) → i ≤ a → a < count_at labels near → b < count_at labels far → energy_at labels near a + energy_at labels far b ≤ C → NotLater energy (pair_of best) (sum_of labels near far a b)) →
@@ -273,7 +213,7 @@ module _ {labels : List ℕ} {near far C i j : ℕ} {known best : Pair} (now : W
               pick (no before) =
                   sooner (by_time (omega (arith, late, is-quickest, is-takes, is_sum, last_quickest b (omega arith), times_fall near_fits a (count_at labels near - 1) (omega arith) (omega arith))))
 
-      module _ {candidate : Pair} (is : SumIs labels near far i (r - 1) candidate) where
+      module _ {candidate : Sum} (is : SumIs labels near far i (r - 1) candidate) where
         candidate_is : pair_of candidate ≡ sum_of labels near far i (r - 1)
         candidate_is = pair_is is.time_is is.energy_is
 
@@ -298,21 +238,16 @@ module _ {labels : List ℕ} {near far C i j : ℕ} {known best : Pair} (now : W
         candidate_placed : Placed labels (Only near far) C candidate
         candidate_placed =
             record {
+              lists = record { near_is = is.near_is; far_is = is.far_is };
               stands =
-                  record {
-                    near = near;
-                    far = far;
-                    i = i;
-                    j = r - 1;
-                    lists = record { near_is = refl; far_is = refl };
-                    sum = record { in_near = turn; in_far = omega (arith, fitting.in_range, now.in_far); adds = candidate_is };
-                  };
+                  rw (is.near_is, is.far_is, is.i_is, is.j_is)
+                  (record { in_near = turn; in_far = omega (arith, fitting.in_range, now.in_far); adds = candidate_is });
               within = omega (arith, is.energy_is, read, fitting.fits (omega arith));
             }
 
         -- entry i is done: its best sum is taken if it comes before the best
         walk_with :
-            {next : Pair} → NotLater energy (pair_of next) (pair_of candidate) → NotLater energy (pair_of next) (pair_of best) →
+            {next : Sum} → NotLater energy (pair_of next) (pair_of candidate) → NotLater energy (pair_of next) (pair_of best) →
             (next ≡ known) ⊎ Placed labels (Only near far) C next → Walked labels near far C known (i + 1) r next
         walk_with {next} before-candidate before-best origin =
             record {
@@ -331,14 +266,14 @@ module _ {labels : List ℕ} {near far C i j : ℕ} {known best : Pair} (now : W
             pick a b h g w (no apart) = not_later_trans number_lawful before-best (now.least a b (omega arith) g w)
 
         pub walk_more :
-            {next : Pair} → (Sooner energy (pair_of candidate) (pair_of best) × (next ≡ candidate)) ⊎ (NotLater energy (pair_of best) (pair_of candidate) × (next ≡ best)) →
+            {next : Sum} → (Sooner energy (pair_of candidate) (pair_of best) × (next ≡ candidate)) ⊎ (NotLater energy (pair_of best) (pair_of candidate) × (next ≡ best)) →
             Walked labels near far C known (i + 1) r next
         walk_more (inl (comes, e)) = walk_with (same (ap pair_of e)) (rw e (sooner comes)) (inr (rw e candidate_placed))
         walk_more (inr (later, e)) = walk_with (rw e later) (same (ap pair_of e)) (rw e now.origin)
 
 -- ---- Where the walk starts
 
-module _ {labels : List ℕ} {near far : ℕ} {known : Pair} (near_fits : ListFits labels near) (far_fits : ListFits labels far) (worth : WorthWalking labels near far known)
+module _ {labels : List ℕ} {near far : ℕ} {known : Sum} (near_fits : ListFits labels near) (far_fits : ListFits labels far) (worth : WorthWalking labels near far known)
     {quickest start : ℕ} (is : quickest ≡ time_at labels far (count_at labels far - 1)) (slow : SlowBefore labels near quickest known.time.0 start) where
   pub walk_start :
       {beside C end : ℕ} → beside ≡ energy_at labels near start → FittingFrom labels far beside C (count_at labels far) end → WalkStart labels near far C start end known
@@ -356,68 +291,54 @@ module _ {labels : List ℕ} {near far near-count : ℕ} (near_is : near-count �
   module _ {far-count : ℕ} (far_is : far-count ≡ count_at labels far) where
     module _ (near_some : near-count ≡ 0 → ⊥) (far_some : far-count ≡ 0 → ⊥) where
       -- the first entries have a sum
-      first_sum : SumIn labels (Only near far) (sum_of labels near far 0 0)
-      first_sum =
+      level-some : SomeSum labels (Only near far)
+      level-some =
           record {
-            near = near;
-            far = far;
-            i = 0;
-            j = 0;
-            lists = record { near_is = refl; far_is = refl };
-            sum = record { in_near = omega arith; in_far = omega arith; adds = refl };
+            one = sum_of labels near far 0 0;
+            among =
+                record {
+                  near = near;
+                  far = far;
+                  i = 0;
+                  j = 0;
+                  lists = record { near_is = refl; far_is = refl };
+                  sum = record { in_near = omega arith; in_far = omega arith; adds = refl };
+                };
           }
 
-      level-some : SomeSum labels (Only near far)
-      level-some = record { one = sum_of labels near far 0 0; among = first_sum }
-
-      module _ {cheapest : Pair} (is : SumIs labels near far 0 0 cheapest) where
-        -- which is within the limit
-        cheapest_placed : {C : ℕ} → cheapest.energy.0 ≤ C → Placed labels (Only near far) C cheapest
-        cheapest_placed within =
-            let e : pair_of cheapest ≡ sum_of labels near far 0 0 = pair_is is.time_is is.energy_is in
-            record { stands = rw e first_sum; within = within }
-
-        -- so a sum is known, and what the walk along the lists gives is the best
-        pub level_walked :
-            {C : ℕ} {known r : Result Pair NoAnswer} {from best : Pair} → cheapest.energy.0 ≤ C → from ≡ result_unwrap_or known cheapest → Improves labels (Only near far) C from best →
-            r ≡ Ok best → Extends labels (Only near far) C known r
-        level_walked {known = known} within e improves f = extends-found known (cheapest_placed within) e improves f
+      -- what the walk along the lists gives
+      pub level_walked : {C : ℕ} {known r : Best} → r.connected ≡ true → Improves labels (Only near far) C known.sum r.sum → Extends labels (Only near far) C known r
+      level_walked e improves = extends_seen level-some e improves
 
       module _ (near_fits : ListFits labels near) (far_fits : ListFits labels far) where
-        -- which is over the limit
+        -- the least energies are over the limit
         pub level-over :
-            {C : ℕ} {known r : Result Pair NoAnswer} {cheapest : Pair} → SumIs labels near far 0 0 cheapest → C < cheapest.energy.0 → r ≡ result_or known (Err OverLimit) →
+            {C : ℕ} {known r : Best} {cheapest : Sum} → SumIs labels near far 0 0 cheapest → C < cheapest.energy.0 → r.connected ≡ true → r.sum ≡ known.sum →
             Extends labels (Only near far) C known r
-        level-over {C} {known} is beyond e = extends_over known level-some none e
+        level-over {C} {known} is beyond e kept = level_walked e (rw kept (improves-kept (each_sum over)))
           where
-            none : (p : Weight) → SumIn labels (Only near far) p → Within energy C p → ⊥
-            none p h w =
-                let z = only-entries h in
-                omega (
-                  arith,
-                  beyond,
-                  is.energy_is,
-                  w,
-                  ap (spent energy) z.adds,
-                  energies_rise near_fits 0 z.a (omega arith) z.in_near,
-                  energies_rise far_fits 0 z.b (omega arith) z.in_far,
-                )
+            over :
+                (a b : ℕ) → a < count_at labels near → b < count_at labels far → energy_at labels near a + energy_at labels far b ≤ C →
+                NotLater energy (pair_of known.sum) (sum_of labels near far a b)
+            over a b h g w =
+                absurd (omega (arith, beyond, is.energy_is, energies_rise near_fits 0 a (omega arith) h, energies_rise far_fits 0 b (omega arith) g))
 
-        module _ {quickest : Pair} (is : SumIs labels near far (near-count - 1) (far-count - 1) quickest) where
+        module _ {quickest : Sum} (is : SumIs labels near far (near-count - 1) (far-count - 1) quickest) where
           -- the last entries, which are the quickest
           quickest_is : quickest.time.0 ≡ time_at labels near (count_at labels near - 1) + time_at labels far (count_at labels far - 1)
           quickest_is = rw (near_is, far_is) at is.time_is
 
-          -- they take longer than what is known, which stays
-          pub level-slow : {C : ℕ} {known : Pair} {test : Bool} → test ≡ ltb known.time.0 quickest.time.0 → test ≡ true → Improves labels (Only near far) C known known
-          level-slow {C} {known} tested t = improves-kept (each_sum slow)
+          -- they take longer than what is known
+          pub level-slow :
+              {C : ℕ} {known r : Best} {test : Bool} → test ≡ ltb known.sum.time.0 quickest.time.0 → test ≡ true → r.connected ≡ true → r.sum ≡ known.sum → Extends labels (Only near far) C known r
+          level-slow {C} {known} tested t e kept = level_walked e (rw kept (improves-kept (each_sum slow)))
             where
-              late : known.time.0 < quickest.time.0
+              late : known.sum.time.0 < quickest.time.0
               late = ltb-true _ _ (sym tested ∙ t)
 
               slow :
                   (a b : ℕ) → a < count_at labels near → b < count_at labels far → energy_at labels near a + energy_at labels far b ≤ C →
-                  NotLater energy (pair_of known) (sum_of labels near far a b)
+                  NotLater energy (pair_of known.sum) (sum_of labels near far a b)
               slow a b h g w =
                   sooner
                   (by_time
@@ -430,25 +351,10 @@ module _ {labels : List ℕ} {near far near-count : ℕ} (near_is : near-count �
                   )))
 
           -- they do not
-          pub level_worth : {known : Pair} {test : Bool} → test ≡ ltb known.time.0 quickest.time.0 → test ≡ false → WorthWalking labels near far known
+          pub level_worth : {known : Sum} {test : Bool} → test ≡ ltb known.time.0 quickest.time.0 → test ≡ false → WorthWalking labels near far known
           level_worth {known} tested t =
               record {
                 near_some = omega arith;
                 far_some = omega arith;
                 quick = omega (arith, ltb-false known.time.0 quickest.time.0 (sym tested ∙ t), quickest_is);
               }
-
-        -- nor are they slower than the first entries
-        pub level_first : {cheapest : Pair} → SumIs labels near far 0 0 cheapest → WorthWalking labels near far cheapest
-        level_first is =
-            record {
-              near_some = omega arith;
-              far_some = omega arith;
-              quick =
-                  omega (
-                    arith,
-                    is.time_is,
-                    times_fall near_fits 0 (count_at labels near - 1) (omega arith) (omega arith),
-                    times_fall far_fits 0 (count_at labels far - 1) (omega arith) (omega arith),
-                  );
-            }

@@ -1,6 +1,5 @@
 -- Why the queries answer what they are to answer. Read in this order.
 pub mod ListPlaces
-pub mod PairOrder
 pub mod BestSums
 pub mod Rows
 pub mod MarkedSums

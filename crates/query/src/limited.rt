@@ -5,9 +5,9 @@ ghost use Rattle.query.specs.working.PreparedSet.{IsPrepared};
 ghost use Rattle.query.specs.working.AnswerValues.{number_of, time_of, energy_of};
 ghost use Rattle.query.specs.Answers.{Answers};
 ghost use Rattle.query.specs.working.AnswerFrom.{AnswerFrom};
-ghost use Rattle.query.specs.working.Sums.{SumIn, Row, RowFits};
+ghost use Rattle.query.specs.working.Sums.{SumIn, Row, RowFits, Unknown, Told};
 
-use crate::across::across;
+use crate::across::{Best, Sum, across};
 use crate::climbing::between;
 use crate::direct::from_list;
 use crate::{Between, NoAnswer};
@@ -17,6 +17,40 @@ use paths::pair::Pair;
 use paths::seconds::Seconds;
 use stored::list::StoredList;
 use stored::set::LabelSet;
+
+// Later than any path, so that every sum comes before it.
+const NO_TIME: Seconds = Seconds(u32::MAX);
+
+// What is known of the best before any list is read.
+pub fn unknown() -> Best
+    ensures { Unknown result }
+{
+    Best {
+        connected: false,
+        sum: Sum {
+            time: NO_TIME,
+            energy: Energy(0),
+            near: 0,
+            far: 0,
+            i: 0,
+            j: 0,
+        },
+    }
+}
+
+// What is known of the best, as an answer.
+fn told(best: Best) -> Result<Pair, NoAnswer>
+    ensures { Told best result }
+{
+    let Sum { time, energy, .. } = best.sum;
+    if time != NO_TIME {
+        return Ok(Pair { time, energy });
+    }
+    if best.connected {
+        return Err(NoAnswer::OverLimit);
+    }
+    Err(NoAnswer::NotConnected)
+}
 
 // The answer of the lists at two bytes and those behind them, so many on each side.
 pub fn from_lists(
@@ -29,14 +63,7 @@ pub fn from_lists(
     requires { RowFits labels.now near far levels }
     ensures { AnswerFrom (SumIn labels.now (Row labels.now near far levels)) limit.0 result }
 {
-    across(
-        labels,
-        near,
-        far,
-        levels,
-        limit,
-        Err(NoAnswer::NotConnected),
-    )
+    told(across(labels, near, far, levels, limit, unknown()))
 }
 
 // The answer for two junctions of the map.

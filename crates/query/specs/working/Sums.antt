@@ -8,7 +8,13 @@ use Rattle.stored.specs.ListForm.{most_bytes}
 use Rattle.stored.specs.working.Formed.{ListFits}
 use Rattle.stored.specs.working.Scanned.{further}
 use Rattle.query.specs.declared.NoAnswer.{NoAnswer}
-use Rattle.query.specs.declared.NoAnswer.TheVariants.{OffMap, NotConnected, OverLimit}
+use Rattle.query.specs.declared.NoAnswer.TheVariants.{NotConnected, OverLimit}
+use Rattle.query.specs.declared.across.Sum.{Sum}
+use Rattle.query.specs.declared.across.Best.{Best}
+
+-- A time that no path takes: what a best sum has before one is found
+abbrev pub no_time : ℕ
+no_time = 4294967295
 
 -- ---- Places in one list
 
@@ -70,22 +76,27 @@ pub record RowFits (labels : List ℕ) (near far levels : ℕ) : Type 0 where
 
 -- ---- The best sum
 
--- The weight of a sum
-abbrev pub pair_of : Pair → Weight
+-- The pair of a sum
+abbrev pub pair_of : Sum → Weight
 pair_of sum = pair sum.time.0 sum.energy.0
 
 -- What the code holds of the sum of entry i and entry j
-pub record SumIs (labels : List ℕ) (near far i j : ℕ) (sum : Pair) : Type 0 where
+pub record SumIs (labels : List ℕ) (near far i j : ℕ) (sum : Sum) : Type 0 where
+  pub near_is : sum.near ≡ near
+  pub far_is : sum.far ≡ far
+  pub i_is : sum.i ≡ i
+  pub j_is : sum.j ≡ j
   pub time_is : sum.time.0 ≡ time_at labels near i + time_at labels far j
   pub energy_is : sum.energy.0 ≡ energy_at labels near i + energy_at labels far j
 
--- It is the sum of two lists that belong together, and is within C
-pub record Placed (labels : List ℕ) (Lists : ℕ → ℕ → Type 0) (C : ℕ) (sum : Pair) : Type 0 where
-  pub stands : SumIn labels Lists (pair_of sum)
+-- The sum stands where it says, in two lists that belong together, and is within C
+pub record Placed (labels : List ℕ) (Lists : ℕ → ℕ → Type 0) (C : ℕ) (sum : Sum) : Type 0 where
+  pub lists : Lists sum.near sum.far
+  pub stands : SumAt labels sum.near sum.far sum.i sum.j (pair_of sum)
   pub within : Within energy C (pair_of sum)
 
--- r is the best of a known sum and the sums within C: the known one, or one of them
-pub record Improves (labels : List ℕ) (Lists : ℕ → ℕ → Type 0) (C : ℕ) (known r : Pair) : Type 0 where
+-- r is the best of a known sum and the sums within C: the known one, or one of them where it stands
+pub record Improves (labels : List ℕ) (Lists : ℕ → ℕ → Type 0) (C : ℕ) (known r : Sum) : Type 0 where
   pub no_later : NotLater energy (pair_of r) (pair_of known)
   pub least : (p : Weight) → SumIn labels Lists p → Within energy C p → NotLater energy (pair_of r) p
   pub origin : (r ≡ known) ⊎ Placed labels Lists C r
@@ -95,33 +106,34 @@ pub record SomeSum (labels : List ℕ) (Lists : ℕ → ℕ → Type 0) : Type 0
   pub one : Weight
   pub among : SumIn labels Lists one
 
--- A pair is known, and p does not come before it
-pub record NoneBefore (known : Result Pair NoAnswer) (p : Weight) : Type 0 where
-  pub best : Pair
-  pub is : known ≡ Ok best
-  pub no_later : NotLater energy (pair_of best) p
+-- r is what is known of the best sum, taken further by the sums of these lists; it is connected if there is a sum
+pub record Extends (labels : List ℕ) (Lists : ℕ → ℕ → Type 0) (C : ℕ) (known r : Best) : Type 0 where
+  pub improves : Improves labels Lists C known.sum r.sum
+  pub connected : r.connected ≡ true → (known.connected ≡ true) ⊎ SomeSum labels Lists
+  pub apart : r.connected ≡ false → (known.connected ≡ false) × (SomeSum labels Lists → ⊥)
 
--- r is what is known of the best sum, taken further by the sums of these lists: over the limit if there is a sum, be it known or one of
--- these, and not connected if there is none
-pub record Extends (labels : List ℕ) (Lists : ℕ → ℕ → Type 0) (C : ℕ) (known r : Result Pair NoAnswer) : Type 0 where
-  pub no_later : (p : Weight) → NoneBefore known p → NoneBefore r p
-  pub least : (p : Weight) → SumIn labels Lists p → Within energy C p → NoneBefore r p
-  pub origin : (best : Pair) → r ≡ Ok best → (known ≡ Ok best) ⊎ Placed labels Lists C best
-  pub over : r ≡ Err OverLimit → (known ≡ Err OverLimit) ⊎ SomeSum labels Lists
-  pub apart : r ≡ Err NotConnected → (known ≡ Err NotConnected) × (SomeSum labels Lists → ⊥)
-  pub off_map : r ≡ Err OffMap → known ≡ Err OffMap
+-- Nothing is known yet
+pub record Unknown (best : Best) : Type 0 where
+  pub apart : best.connected ≡ false
+  pub late : best.sum.time.0 ≡ no_time
+
+-- What is known of the best sum, as an answer
+pub data Told (best : Best) (r : Result Pair NoAnswer) : Type 0 where
+  told_found : (best.sum.time.0 ≡ no_time → ⊥) → r ≡ Ok (record { time = best.sum.time; energy = best.sum.energy }) → Told best r
+  told_over : best.sum.time.0 ≡ no_time → best.connected ≡ true → r ≡ Err OverLimit → Told best r
+  told_apart : best.sum.time.0 ≡ no_time → best.connected ≡ false → r ≡ Err NotConnected → Told best r
 
 -- ---- The walk along two lists
 
 -- Before place i the near entries are too slow for what is known, and beside a later one no far entry from place j on fits
-pub record WalkStart (labels : List ℕ) (near far C i j : ℕ) (known : Pair) : Type 0 where
+pub record WalkStart (labels : List ℕ) (near far C i j : ℕ) (known : Sum) : Type 0 where
   pub in_near : i ≤ count_at labels near
   pub in_far : j ≤ count_at labels far
   pub slow : (a b : ℕ) → a < i → b < count_at labels far → known.time.0 < time_at labels near a + time_at labels far b
   pub over : (a b : ℕ) → i ≤ a → a < count_at labels near → j ≤ b → b < count_at labels far → C < energy_at labels near a + energy_at labels far b
 
 -- Both lists have an entry, and their quickest are quick enough for what is known
-pub record WorthWalking (labels : List ℕ) (near far : ℕ) (known : Pair) : Type 0 where
+pub record WorthWalking (labels : List ℕ) (near far : ℕ) (known : Sum) : Type 0 where
   pub near_some : 0 < count_at labels near
   pub far_some : 0 < count_at labels far
   pub quick : time_at labels near (count_at labels near - 1) + time_at labels far (count_at labels far - 1) ≤ known.time.0

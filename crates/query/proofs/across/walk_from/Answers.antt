@@ -1,11 +1,9 @@
 -- Every near entry that is passed has its best sum weighed; where the walk ends, no later one has a better sum.
-use mathlib.Core.Path.{sym, ◌∙◌}
 use mathlib.Core.Logic.{inl, inr}
 use native.Mathlib.Omega.{arith}
-use Rattle.query.proofs.PairOrder.{pair_sooner, pair_not_later}
 use Rattle.query.proofs.BestSums.{walk_starts, walk_none, walk-slow, walk_more, walk_ends}
 use Rattle.query.proofs.across.walk_from.Goals as goal
-use Rattle.query.proofs.across.walk_from.Goals.{then-j-eq0-via-then-j-eq0, then-j-eq0-via-else-j-eq0+then-too_long, then-lt, else-lt}
+use Rattle.query.proofs.across.walk_from.Goals.{then-j-eq0-via-then-j-eq0, then-j-eq0-via-else-j-eq0+then-too_long, then-comes_before, else-comes_before}
 
 pub loop-i-init : goal.loop-i-init
 loop-i-init c = walk_starts c.requires.walk_start
@@ -30,7 +28,10 @@ loop-i-preserved c =
     let fits = rw (c.far-far.ensures.labels_is, c.far-far.ensures.at_is) at c.fitting_from-j.ensures in
     walk_more c.loop-i.invariant c.args.lists.near_fits c.args.lists.far_fits (omega (arith, count)) spends fits
     c.if-j-eq0.false c.sum_at-candidate.ensures
-    (elim c.if-lt.branch [ then-lt w ↦ inl (pair_sooner (sym c.lt.ensures ∙ w.if-lt.true), w.best-is) | else-lt w ↦ inr (pair_not_later (sym c.lt.ensures ∙ w.if-lt.false), w.best-is) ])
+    (elim c.if-comes_before.branch [
+      | then-comes_before w ↦ inl (c.comes_before.ensures.before w.if-comes_before.true, w.best-is)
+      | else-comes_before w ↦ inr (c.comes_before.ensures.not_before w.if-comes_before.false, w.best-is)
+    ])
 
 pub returns : goal.returns
 returns c = walk_ends c.loop-i.invariant (rw (c.near-near.ensures.labels_is, c.near-near.ensures.at_is) at c.count-count.ensures.value) c.loop-i-test.false
