@@ -4,8 +4,8 @@ use mathlib.Core.List.{List}
 use Prim.Native.Nat.{ℕ, ◌+◌, ◌-◌, ◌≤◌, ◌<◌}
 use native.Mathlib.Omega.{arith}
 use lib.ListN.{length, set}
-use Rattle.std.specs.Prelude.{Option, Some, None}
-use Rattle.std.proofs.Common.{IsSome, rules}
+use Rattle.std.specs.Prelude.{Result, Ok, Err}
+use Rattle.std.proofs.Common.{IsOk, rules}
 use Rattle.paths.specs.Weights.{energy, pair, spent}
 use Rattle.paths.specs.declared.pair.Pair.{Pair}
 use Rattle.lists.specs.Entries.{Weight}
@@ -98,12 +98,14 @@ module _ {Has : Weight → Type 0} {count : ℕ} {out_times out_energies : List 
     fill_bound = below-some now.filling.left some
 
     -- one is always found
-    pub always_found : {next : Option Pair} {after : Span} {lower : List ℕ} → NextBelow Has bound next after lower → IsSome next
-    always_found {next} {after} {lower} below = pick next below.told
+    pub always_found :
+        {Missing : Type 0} {Says : ℕ → Missing → Type 0} {next : Result Pair Missing} {before after : Span} {lower : List ℕ} →
+        NextBelow Has Says bound next before after lower → IsOk next
+    always_found {Missing} {Says} {next} {before} {after} {lower} below = pick next below.told
       where
-        pick : (told : Option Pair) → BelowIs Has bound after lower told → IsSome told
-        pick (Some p) found = search rules
-        pick None none = absurd (omega (arith, below_none now.filling.left fill_bound (nothing-left now.right fill_bound none)))
+        pick : (told : Result Pair Missing) → BelowIs Has Says bound before after lower told → IsOk told
+        pick (Ok p) found = search rules
+        pick (Err why) none = absurd (omega (arith, below_none now.filling.left fill_bound (nothing-left now.right fill_bound none.none)))
 
     -- it goes to the place before
     pub fill_more :

@@ -1,6 +1,6 @@
 // The sums of two or more lists, gone through from the fast end: the best sum below a bound, then the best below that one's energy, and
 // so on. Where they stand close, each 2,048 seconds are noted at once.
-ghost use Rattle.std.specs.Prelude.{◌≡◌, ◌-◌, ◌≤◌, ◌<◌, length};
+ghost use Rattle.std.specs.Prelude.{◌≡◌, ℕ, ◌-◌, ◌≤◌, ◌<◌, length};
 ghost use Rattle.lists.specs.Entries.{Weight};
 ghost use Rattle.spans.specs.working.Noting.{span_seconds, PairWithin, NoneBefore, Lowered};
 ghost use Rattle.spans.specs.working.Waiting.{most_time, Waiting};
@@ -14,16 +14,22 @@ use paths::pair::Pair;
 use paths::seconds::Seconds;
 
 pub trait Sums {
+    // Why no sum is within a limit, for callers that tell the reasons apart.
+    type Missing: Copy;
+
     // Which weights are sums.
     ghost has: { Self → Weight → Type 0 };
 
     // What the lists keep to.
     ghost formed: { Self → Type 0 };
 
-    // The best sum within the limit, or none.
-    fn best(&self, limit: Energy) -> Option<Pair>
+    // What such a reason says of the limit.
+    ghost says: { Self → ℕ → Self.Missing → Type 0 };
+
+    // The best sum within the limit, or why there is none.
+    fn best(&self, limit: Energy) -> Result<Pair, Self::Missing>
         requires is_formed { formed self.now }
-        ensures { BestIs (has self.now) limit.0 result };
+        ensures { BestIs (has self.now) (says self.now) limit.0 result };
 
     // All sums within the limit, noted by their seconds.
     fn note(&self, limit: Energy, first: Seconds, leasts: &mut [u32; SECONDS])
@@ -71,29 +77,30 @@ fn span_from<S: Sums>(
     }
 }
 
-// The best sum below a bound: the next one noted, or one walk finds it, and then the seconds from there on are noted.
+// The best sum below a bound: the next one noted, or one walk finds it, and then the seconds from there on are noted. Where there is
+// none, the walk says why, and the span stays as it was.
 pub fn next_below<S: Sums>(
     sums: &S,
     bound: Energy,
     span: &mut Span,
     leasts: &mut [u32; SECONDS],
-) -> Option<Pair>
+) -> Result<Pair, S::Missing>
     requires is_formed { S.formed sums.now }
     requires bound_nonzero { 0 < bound.0 }
     requires waiting { Waiting (S.has sums.now) bound.0 span.old leasts.old }
-    ensures { NextBelow (S.has sums.now) bound.0 result span.new leasts.new }
+    ensures { NextBelow (S.has sums.now) (S.says sums.now) bound.0 result span.old span.new leasts.new }
 {
     let second = first_below(leasts, span.passed, span.noted, bound);
     if second < span.noted {
         span.passed = second + 1;
-        return Some(Pair {
+        return Ok(Pair {
             time: time_behind(span.first, second),
             energy: Energy(leasts[second]),
         });
     }
     let best = sums.best(Energy(bound.0 - 1))?;
     *span = span_from(sums, bound, *span, best.time, leasts);
-    Some(best)
+    Ok(best)
 }
 
 // How many entries the list of the sums has.
@@ -108,7 +115,7 @@ pub fn count_below<S: Sums>(sums: &S, leasts: &mut [u32; SECONDS]) -> u32
     let mut count: u32 = 0;
     let mut bound = Energy(ABOVE_ALL);
     while bound.0 > 0 {
-        let Some(sum) = next_below(sums, bound, &mut span, leasts) else {
+        let Ok(sum) = next_below(sums, bound, &mut span, leasts) else {
             return count;
         };
         count += 1;

@@ -1,9 +1,10 @@
 -- The list of a set's unbeaten pairs, and which sets have the trade-off list of two junctions.
--- In this order: a set that stands for all paths; the lists between two junctions.
+-- In this order: a set that stands for all paths; the lists between two junctions; the best below a bound.
 use mathlib.Core.Path.{◌≡◌, refl, subst}
 use mathlib.Core.List.Memᴰ
 use mathlib.Core.List.{List, []}
-use Prim.Native.Nat.{ℕ}
+use Prim.Native.Nat.{ℕ, ◌-◌, ◌<◌}
+use Rattle.std.specs.Prelude.{Result}
 use Rattle.paths.specs.Weights.{weights, energy, Rising}
 use Rattle.paths.specs.Network.{weight}
 use Rattle.paths.specs.TradeOff.{Skyline, IsTradeOff}
@@ -12,18 +13,25 @@ use Rattle.paths.proofs.Figures.{number_lawful}
 use Rattle.paths.proofs.Weights.{weights_lawful, unbeaten-below}
 use Rattle.paths.proofs.Crossing.{apart-without-common}
 use Rattle.paths.proofs.Existence.{trade_off_exists}
+use Rattle.paths.specs.declared.pair.Pair.{Pair}
 use Rattle.lists.specs.Entries.{Weight}
-use Rattle.network.specs.NetworkFile.{network_of}
+use Rattle.network.specs.NetworkFile.{network_of, junctions_of}
 use Rattle.network.proofs.Arcs.{network_finite}
 use Rattle.forest.specs.LabelFile.{parents_of}
 use Rattle.stored.proofs.Passed.{parents-forest, roads_joined}
+use Rattle.query.specs.declared.NoAnswer.{NoAnswer}
 use Rattle.query.specs.declared.Between.{Between}
 use Rattle.query.specs.declared.Between.TheVariants.{Nothing, List as OneList, Lists as TwoLists}
 use Rattle.query.specs.working.Prepared.{Prepared}
-use Rattle.query.specs.working.Between.{Leads}
-use Rattle.query.proofs.WholeAnswers.{StandsFor, row_fits, row_stands, list-between-right, list-between-fits}
+use Rattle.query.specs.working.AnswerValues.{number_of, time_of, energy_of}
+use Rattle.query.specs.working.Between.{ListsBetween, Leads}
+use Rattle.query.specs.working.Sums.{SumIn, Row}
+use Rattle.query.specs.Answers.{Answers}
+use Rattle.query.proofs.WholeAnswers.{StandsFor, row_fits, row_stands, list-between-right, list-between-fits, answer_lists}
+use Rattle.spans.specs.declared.Span.{Span}
 use Rattle.spans.specs.working.Below.{UnbeatenOf, ListOf}
 use Rattle.tradeoffs.specs.working.Tells.{Tells}
+use Rattle.tradeoffs.specs.working.Noting.{NextBelow}
 use Rattle.spans.specs.working.Written.{SomeList}
 
 -- ---- A set that stands for all paths
@@ -95,3 +103,13 @@ module _ {net labels depths tables : List ℕ} (prepared : Prepared net labels d
   tells_some (TwoLists near far levels meeting) led =
       let z = trade_off_exists number_lawful (network_finite net) x y in
       record { list = z.list; right = record { fits = row_fits prepared led; is = stands-list (row_stands prepared led) z.is_trade_off } }
+
+-- ---- The best below a bound
+
+module _ {net labels depths tables : List ℕ} (prepared : Prepared net labels depths tables) {x y : ℕ} (x_on_map : x < junctions_of labels)
+    (y_on_map : y < junctions_of labels) where
+  -- where two branches meet it is the answer of a query under the limit one below
+  pub next_answer :
+      {near far levels meeting bound : ℕ} {next : Result Pair NoAnswer} {span : Span} {leasts : List ℕ} → ListsBetween labels x y near far levels meeting →
+      NextBelow (SumIn labels (Row labels near far levels)) bound next span leasts → Answers net x y (bound - 1) (number_of next) (time_of next) (energy_of next)
+  next_answer two below = answer_lists prepared x_on_map y_on_map two below.answers

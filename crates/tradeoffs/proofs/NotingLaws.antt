@@ -1,16 +1,18 @@
--- Sums of stored lists noted by their times. In this order: one level; all levels; the best answer.
+-- Sums of stored lists noted by their times. In this order: one level; all levels; the best answer; the best below a bound.
 use mathlib.Core.Path.{◌≡◌, refl, sym, ap, ◌∙◌}
 use mathlib.Core.Logic.{inl, inr, ⊎_elim}
 use mathlib.Core.List.{List}
 use Rattle.std.specs.Prelude.{Result, Ok, Err}
-use Rattle.std.specs.Result.{result_ok}
 use Prim.Native.Nat.{ℕ, ◌+◌, ◌≤◌, ◌<◌}
 use native.Mathlib.Omega.{arith}
 use lib.ListN.{length}
-use Rattle.paths.specs.Weights.{energy, pair, time, Within}
+use Rattle.paths.specs.Weights.{energy, pair, time, spent, Within}
+use Rattle.paths.proofs.Figures.{number_lawful}
+use Rattle.paths.proofs.Weights.{not_later_antisym}
 use Rattle.lists.specs.Entries.{Weight}
 use Rattle.spans.specs.working.Noting.{span_seconds, SumOf, PairWithin, NoneBefore, Lowered}
-use Rattle.spans.specs.working.Below.{BestWithin, BestIs}
+use Rattle.spans.specs.declared.Span.{Span}
+use Rattle.spans.specs.working.Below.{BestWithin, BestIs, NextBelow as BelowSays}
 use Rattle.spans.proofs.NotingLaws.{lowered_none, lowered-same, SetParts, lowered_then}
 use Rattle.spans.proofs.TableLaws.{EnergiesRise, FittingSums}
 use Rattle.forest.specs.LabelFile.{count_at, energy_at, list_end}
@@ -18,12 +20,15 @@ use Rattle.stored.specs.working.Formed.{ListFits}
 use Rattle.paths.specs.declared.pair.Pair.{Pair}
 use Rattle.query.specs.declared.NoAnswer.{NoAnswer}
 use Rattle.query.specs.declared.NoAnswer.TheVariants as case
-use Rattle.query.specs.working.AnswerValues.{number_of}
+use Rattle.query.specs.NoAnswers.{number_without}
+use Rattle.query.specs.working.AnswerValues.{number_of, time_of, energy_of}
 use Rattle.query.specs.working.AnswerFrom.{AnswerFrom, found, over_limit, not_connected}
 use Rattle.query.specs.working.Sums.{FittingFrom, sum_of, SumIn, Only, Row, RowFits}
+use Rattle.query.proofs.AnswersUnique.{SameAnswer}
 use Rattle.query.proofs.ListPlaces.{energies_rise, times_fall}
 use Rattle.query.proofs.BestSums.{ListParts, sum_more, sum_cases}
 use Rattle.query.proofs.Rows.{row_parts, Along, along-none, along-more, along_all}
+use Rattle.tradeoffs.specs.working.Noting.{NoneFrom, NextBelow}
 
 -- ---- One level
 
@@ -151,6 +156,12 @@ row_all now h = rw (along_all now.along h) at now.so_far
 
 -- ---- The best answer
 
+-- no reason has the number of a pair
+not_zero : (why : NoAnswer) → number_without why ≡ 0 → ⊥
+not_zero case.OffMap e = omega arith
+not_zero case.NotConnected e = omega arith
+not_zero case.OverLimit e = omega arith
+
 module _ {Has : Weight → Type 0} {C : ℕ} where
   -- what is found is the best of the set
   answer_found : {r : Result Pair NoAnswer} {best : Pair} → r ≡ Ok best → AnswerFrom Has C r → BestWithin Has C (pair best.time.0 best.energy.0)
@@ -164,9 +175,51 @@ module _ {Has : Weight → Type 0} {C : ℕ} where
   answer_none refused (over_limit e out) q h w = out.none_within q h w
   answer_none refused (not_connected e none) q h w = none q h
 
-  -- so the pair of an answer, if it has one, is what is best within the limit
-  pub answer_best : (r : Result Pair NoAnswer) → AnswerFrom Has C r → BestIs Has C (result_ok r)
+  -- so an answer has what is best within the limit, or says why nothing is
+  pub answer_best : (r : Result Pair NoAnswer) → AnswerFrom Has C r → BestIs Has (NoneFrom Has) C r
   answer_best (Ok best) answer = answer_found refl answer
-  answer_best (Err case.OffMap) answer = answer_none (λ e. omega arith) answer
-  answer_best (Err case.NotConnected) answer = answer_none (λ e. omega arith) answer
-  answer_best (Err case.OverLimit) answer = answer_none (λ e. omega arith) answer
+  answer_best (Err why) answer = record { none = answer_none (not_zero why) answer; says = answer }
+
+-- ---- The best below a bound
+
+-- what is found below a bound is what the set answers one below it, and the span waits for what is below that
+pub next_answers :
+    {Has : Weight → Type 0} {bound : ℕ} (next : Result Pair NoAnswer) {before after : Span} {leasts : List ℕ} →
+    BelowSays Has (NoneFrom Has) bound next before after leasts → NextBelow Has bound next after leasts
+next_answers (Ok p) below =
+    record {
+      answers =
+          found refl
+          (record {
+            among = below.told.best.among;
+            within = omega (arith, below.told.best.below);
+            least = λ q h w. below.told.best.least q h (omega (arith, below.told.best.below));
+          });
+      waits = λ e. below.told.waits;
+    }
+next_answers (Err why) below = record { answers = below.told.says; waits = λ e. absurd (not_zero why e) }
+
+same_values : {r r' : Result Pair NoAnswer} → r ≡ r' → SameAnswer (number_of r) (time_of r) (energy_of r) (number_of r') (time_of r') (energy_of r')
+same_values e = record { number_is = ap number_of e; time_is = ap time_of e; energy_is = ap energy_of e }
+
+-- a set has one answer
+from_unique :
+    {Has : Weight → Type 0} {C : ℕ} {r r' : Result Pair NoAnswer} → AnswerFrom Has C r → AnswerFrom Has C r' →
+    SameAnswer (number_of r) (time_of r) (energy_of r) (number_of r') (time_of r') (energy_of r')
+from_unique (found e best) (found e' best') =
+    let one = not_later_antisym number_lawful (best.least _ best'.among best'.within) (best'.least _ best.among best.within) in
+    record { number_is = e ∙ sym e'; time_is = ap (time energy) one; energy_is = ap (spent energy) one }
+from_unique (found e best) (over_limit e' out) = absurd (out.none_within _ best.among best.within)
+from_unique (found e best) (not_connected e' none) = absurd (none _ best.among)
+from_unique (over_limit e out) (found e' best) = absurd (out.none_within _ best.among best.within)
+from_unique (over_limit e out) (over_limit e' out') = same_values (e ∙ sym e')
+from_unique (over_limit e out) (not_connected e' none) = absurd (none _ out.among)
+from_unique (not_connected e none) (found e' best) = absurd (none _ best.among)
+from_unique (not_connected e none) (over_limit e' out) = absurd (none _ out.among)
+from_unique (not_connected e none) (not_connected e' none') = same_values (e ∙ sym e')
+
+-- so there is one below a bound
+pub next_unique :
+    {Has : Weight → Type 0} {bound : ℕ} {next next' : Result Pair NoAnswer} {span span' : Span} {leasts leasts' : List ℕ} → NextBelow Has bound next span leasts →
+    NextBelow Has bound next' span' leasts' → SameAnswer (number_of next) (time_of next) (energy_of next) (number_of next') (time_of next') (energy_of next')
+next_unique below below' = from_unique below.answers below'.answers

@@ -4,11 +4,12 @@ ghost use Rattle.spans.specs.working.Noting.{span_seconds, EntrySum, PairWithin,
 ghost use Rattle.forest.specs.LabelFile.{count_at};
 ghost use Rattle.stored.specs.working.Formed.{ListFits};
 ghost use Rattle.query.specs.working.Sums.{sum_of, SumIn, Only, Row, RowFits};
-ghost use Rattle.tradeoffs.specs.working.Noting.{row_small};
+ghost use Rattle.tradeoffs.specs.working.Noting.{NoneFrom, row_figures};
 
 use paths::energy::Energy;
 use paths::pair::Pair;
 use paths::seconds::Seconds;
+use query::NoAnswer;
 use query::across::sum_at;
 use query::limited::from_lists;
 use query::list_pair::ListPair;
@@ -84,12 +85,17 @@ pub struct RowSums<'a> {
 }
 
 impl Sums for RowSums<'_> {
+    type Missing = NoAnswer;
+
     ghost has = { λ s. SumIn s.labels.now (Row s.labels.now s.near s.far s.levels) };
 
     ghost formed = { λ s. RowFits s.labels.now s.near s.far s.levels };
 
-    fn best(&self, limit: Energy) -> Option<Pair> {
-        from_lists(self.labels, self.near, self.far, self.levels, limit).ok()
+    ghost says = { λ s. NoneFrom (SumIn s.labels.now (Row s.labels.now s.near s.far s.levels)) };
+
+    #[tactic(auto, using(crate::proofs::NotingLaws::answer_best))]
+    fn best(&self, limit: Energy) -> Result<Pair, NoAnswer> {
+        from_lists(self.labels, self.near, self.far, self.levels, limit)
     }
 
     fn note(&self, limit: Energy, first: Seconds, leasts: &mut [u32; SECONDS]) {
@@ -106,5 +112,5 @@ impl Sums for RowSums<'_> {
         CLOSE
     }
 
-    ghost small = { λ s. row_small s.labels.now s.near s.far s.levels };
+    ghost small = { λ s. row_figures s.labels.now s.near s.far s.levels };
 }

@@ -1,5 +1,5 @@
 // Sums of two lists noted by their times: one pass over the sums of a span tells of many entries of the join.
-ghost use Rattle.std.specs.Prelude.{◌≡◌, ◌≤◌, length};
+ghost use Rattle.std.specs.Prelude.{◌≡◌, ◌≤◌, length, ⊤};
 ghost use Rattle.lists.specs.working.Lists.{IsList};
 ghost use Rattle.spans.specs.working.Noting.{span_seconds, EntrySum, NoneBefore, Lowered};
 ghost use Rattle.joins.specs.Form.{most_number};
@@ -55,18 +55,25 @@ pub struct ListSums<'a> {
 }
 
 impl Sums for ListSums<'_> {
+    // Nothing is told: nobody asks why two lists have no sum within a limit.
+    type Missing = ();
+
     ghost has = { λ s. ListsSum s.times.now s.energies.now s.more_times.now s.more_energies.now };
 
     ghost formed = { λ s. TwoLists s.times.now s.energies.now s.more_times.now s.more_energies.now };
 
-    fn best(&self, limit: Energy) -> Option<Pair> {
-        let (i, j) = best_sum(
+    ghost says = { λ _ _ _. ⊤ };
+
+    fn best(&self, limit: Energy) -> Result<Pair, ()> {
+        let Some((i, j)) = best_sum(
             self.times,
             self.energies,
             self.more_times,
             self.more_energies,
             limit,
-        )?;
+        ) else {
+            return Err(());
+        };
         let sum = sum_at(
             self.times,
             self.energies,
@@ -75,7 +82,7 @@ impl Sums for ListSums<'_> {
             i,
             j,
         );
-        Some(sum.pair)
+        Ok(sum.pair)
     }
 
     // As the first entry's energy rises, fewer entries of the second list fit beside it.
