@@ -20,7 +20,10 @@ use accepted::list::write_list;
 use accepted::route::answer_route;
 use files::show::{Span, span_of};
 pub use joins::{JoinRefusal, SumRefusal};
-use paths::pair::Pair;
+pub use network::refusal::NetworkRefusal;
+pub use paths::pair::Pair;
+pub use query::NoAnswer;
+pub use stored::refusal::LabelRefusal;
 use stored::set::LabelSet;
 
 // A part of lent bytes: where it begins, and how many bytes it has.
