@@ -12,8 +12,7 @@ ghost use Rattle.labels.specs.List.{Listed};
 ghost use Rattle.accepted.specs.ListAnswers.{list_number_of, list_count_of};
 ghost use Rattle.labels.specs.Part.{PartShown};
 
-use labels::{FoundRoute, JoinRefusal, ListRefusal, RouteRefusal, SumRefusal};
-use paths::pair::Pair;
+use labels::{FoundRoute, JoinRefusal, ListRefusal, Pair, RouteRefusal, SumRefusal};
 
 #[repr(C)]
 #[derive(Clone, Copy)]

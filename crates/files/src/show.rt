@@ -13,8 +13,14 @@ use crate::form::test_labels;
 use forest::parents::is_ancestor;
 use network::header::junctions_of;
 use network::versions::version_one;
-use std::ops::Range;
 use stored::place::find_list;
+
+// The bytes from one place up to another.
+#[derive(Clone, Copy)]
+pub struct Span {
+    pub start: usize,
+    pub end: usize,
+}
 
 // Whether u is a proper ancestor of v.
 fn is_above(labels: &[u8], depths: &[u32; 1024], u: usize, v: usize) -> bool
@@ -34,7 +40,7 @@ fn list_span(
     tables: &[u32; 13312],
     v: usize,
     u: usize,
-) -> Option<Range<usize>>
+) -> Option<Span>
     requires labels_value { labels_number_alone version_one labels.now ≡ 0 }
     requires formed { Formed labels.now }
     requires depths_filled { DepthsFilled labels.now depths.now }
@@ -46,11 +52,14 @@ fn list_span(
         return None;
     }
     let place = find_list(labels, depths, tables, v, u);
-    Some(place.at..place.next(labels).at)
+    Some(Span {
+        start: place.at,
+        end: place.next(labels).at,
+    })
 }
 
 // Where the list to show stands in any labels, if there is one, for callers who cannot be handed a part.
-pub fn span_of(labels: &[u8], v: u32, u: u32) -> Option<Range<usize>>
+pub fn span_of(labels: &[u8], v: u32, u: u32) -> Option<Span>
     ensures { SpanFound labels.now v u result }
 {
     let mut depths: [u32; 1024] = [0; 1024];
@@ -64,5 +73,6 @@ pub fn show(labels: &[u8], v: u32, u: u32) -> &[u8]
     ensures shown { Shown labels.now v u result.now }
     ensures ref_ptr_value { 1 ≤ length result.now → result.ref_ptr ≡ (labels.entry.ref_ptr.0, list_place labels.now v u + labels.entry.ref_ptr.1) }
 {
-    &labels[span_of(labels, v, u).unwrap_or(0..0)]
+    let span = span_of(labels, v, u).unwrap_or(Span { start: 0, end: 0 });
+    &labels[span.start..span.end]
 }

@@ -1,7 +1,7 @@
 // Join's 41 and 42: what the two slices of a list keep to.
 ghost use Rattle.std.specs.Prelude.{◌≡◌, ◌<◌, length};
 ghost use Rattle.joins.specs.Form.{follows, entry_fits, well_formed, join_number};
-ghost use Rattle.joins.specs.Refusals.{form_number_of};
+ghost use Rattle.joins.specs.Refusals.{form_refusal_number, form_number_of};
 
 use paths::energy::Energy;
 use paths::seconds::Seconds;
@@ -16,6 +16,18 @@ const MOST_NUMBER: u32 = 1073741823;
 pub enum FormRefusal {
     LengthsDiffer,
     IllFormed,
+}
+
+impl FormRefusal {
+    // The number by which a call tells it.
+    pub fn number(self) -> u32
+        ensures { result ≡ form_refusal_number self }
+    {
+        match self {
+            FormRefusal::LengthsDiffer => 41,
+            FormRefusal::IllFormed => 42,
+        }
+    }
 }
 
 // Entry i stands above the energy before it and below the time before it.

@@ -12,7 +12,7 @@ use Rattle.stored.specs.Stored.{list_place}
 use Rattle.stored.proofs.Places.{list-takes}
 use Rattle.std.specs.Prelude.{Option, unwrap_or}
 use Rattle.std.specs.declared.option.Option.TheVariants.{Some, None}
-use Rattle.std.specs.declared.ops.Range.{Range}
+use Rattle.files.specs.declared.show.Span.{Span}
 use Rattle.files.specs.Shown.{Shows, nothing, bytes}
 use Rattle.files.specs.working.Span.{ListSpan, SpanFound}
 use Rattle.accepted.specs.declared.answers.CheckRefusal.{CheckRefusal}
@@ -152,7 +152,7 @@ module _ {net labels depths tables : List ℕ} {told : Result (Unit {0}) CheckRe
 -- ---- Show's part
 
 -- the list that is found, as a place and a length
-pub part_of_list : {labels : List ℕ} {v u : ℕ} {span : Range ℕ} → ListSpan labels v u span → PartShown labels v u span.start (span.end - span.start)
+pub part_of_list : {labels : List ℕ} {v u : ℕ} {span : Span} → ListSpan labels v u span → PartShown labels v u span.start (span.end - span.start)
 part_of_list {labels} {v} {u} {span} found =
     record {
       shown = bytes found.shows (rw (found.from, found.to) refl);
@@ -167,7 +167,7 @@ no_part none = record { shown = nothing none refl; inside = omega arith; place =
 
 -- the span that is found, or none
 pub part_shown :
-    {labels : List ℕ} {v u : ℕ} (r : Option (Range ℕ)) {span : Range ℕ} → SpanFound labels v u r → span ≡ unwrap_or r (record { start = 0; end = 0 }) →
+    {labels : List ℕ} {v u : ℕ} (r : Option Span) {span : Span} → SpanFound labels v u r → span ≡ unwrap_or r (record { start = 0; end = 0 }) →
     PartShown labels v u span.start (span.end - span.start)
 part_shown None found e = rw e (no_part found)
 part_shown (Some _) found e = rw e (part_of_list found)

@@ -18,8 +18,12 @@ pub use accepted::answers::{CheckRefusal, FoundRoute, ListRefusal, RouteRefusal}
 use accepted::batch::answer_all;
 use accepted::list::write_list;
 use accepted::route::answer_route;
+use files::show::{Span, span_of};
 pub use joins::{JoinRefusal, SumRefusal};
-use paths::pair::Pair;
+pub use network::refusal::NetworkRefusal;
+pub use paths::pair::Pair;
+pub use query::NoAnswer;
+pub use stored::refusal::LabelRefusal;
 use stored::set::LabelSet;
 
 // A part of lent bytes: where it begins, and how many bytes it has.
@@ -170,7 +174,7 @@ pub fn show(labels: &[u8], v: u32, u: u32) -> &[u8]
 pub fn show_part(labels: &[u8], v: u32, u: u32) -> Part
     ensures { PartShown labels.now v u result.at result.length }
 {
-    let span = files::show::span_of(labels, v, u).unwrap_or(0..0);
+    let span = span_of(labels, v, u).unwrap_or(Span { start: 0, end: 0 });
     Part {
         at: span.start,
         length: span.end - span.start,

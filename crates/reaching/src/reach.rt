@@ -28,10 +28,10 @@ use stored::place::Place;
 use stored::set::LabelSet;
 
 // The marks of one junction's hoplinks, and which junction that is: none at first.
-#[derive(Drop)]
+#[derive(Clone, Copy)]
 pub struct Hoplinks {
-    held: Option<usize>,
-    marks: [u8; 1024],
+    pub held: Option<usize>,
+    pub marks: [u8; 1024],
 }
 
 impl Hoplinks {

@@ -1,5 +1,5 @@
--- What a further read tells of a file's end (SCOPE 6.1), where it is known which bytes are left.
-use Rattle.std.specs.Prelude.{◌≡◌, List, ℕ, zero, suc, length}
+-- What is handed on of a file, and what a further read tells of its end (SCOPE 6.1), where it is known which bytes are left.
+use Rattle.std.specs.Prelude.{◌≡◌, List, ℕ, zero, suc, length, take}
 use Rattle.std.specs.Io.KnownBytes.{Consumes, Keeps, IsAtEnd}
 use Rattle.std.specs.declared.option.Option.{Option}
 use Rattle.std.specs.declared.option.Option.TheVariants.{Some, None}
@@ -16,3 +16,17 @@ unfoldable pub taken_length : ℕ → Option ℕ → ℕ
 taken_length count (Some zero) = count
 taken_length count (Some (suc more)) = 0
 taken_length count None = 0
+
+-- The part is what was read of a file, from its next byte on, if one further read tells that the file has ended; else it is empty
+pub record WholeOrNone (old new : Option (List ℕ)) (part : List ℕ) : Type 0 where
+  pub read : List ℕ
+  pub between : Option (List ℕ)
+  pub further : Option ℕ
+  pub taken : Consumes old between read
+  pub told : ReadFurther between new further
+  pub is : part ≡ take (taken_length (length read) further) read
+
+-- The part is the first bytes of a buffer
+pub record FirstBytes (buffer : List ℕ) (count : ℕ) (part : List ℕ) : Type 0 where
+  pub counted : length part ≡ count
+  pub is : part ≡ take count buffer

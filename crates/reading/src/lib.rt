@@ -4,7 +4,7 @@
 ghost use Rattle.std.specs.Prelude.{◌≡◌, ◌≤◌, length, take};
 ghost use Rattle.std.specs.Io.KnownBytes.{Consumes};
 ghost use Rattle.io.specs.Counts.{IsPrefixLen};
-ghost use Rattle.reading.specs.Reading.{ReadFurther, taken_length};
+ghost use Rattle.reading.specs.Reading.{FirstBytes, ReadFurther, WholeOrNone, taken_length};
 
 use std::fs;
 use std::io::Read;
@@ -57,15 +57,41 @@ fn taken_length(count: usize, further: Option<usize>) -> usize
     if further == Some(0) { count } else { 0 }
 }
 
+// The first bytes of a buffer: what was read into it.
+fn first_bytes(buffer: &[u8], count: usize) -> &[u8]
+    requires { count ≤ length buffer.now }
+    ensures { FirstBytes buffer.now count result.now }
+{
+    &buffer[..count]
+}
+
+// The next bytes of a file, as many as the buffer takes, up to its end or a read that fails.
+pub fn read_first<'b, F: Read>(file: &mut F, buffer: &'b mut [u8]) -> &'b [u8]
+    ensures bytes { Consumes (F.remaining file.old) (F.remaining file.new) result.now }
+    ensures few { length result.now ≤ length buffer.old }
+{
+    let count = read_full(file, buffer);
+    first_bytes(buffer, count)
+}
+
+// All bytes of a file that are left; none if they are more than the buffer takes, or a read fails.
+pub fn read_whole<'b, F: Read>(file: &mut F, buffer: &'b mut [u8]) -> &'b [u8]
+    ensures whole { WholeOrNone (F.remaining file.old) (F.remaining file.new) result.now }
+    ensures few { length result.now ≤ length buffer.old }
+{
+    let count = read_full(file, buffer);
+    let further = read_further(file);
+    first_bytes(buffer, taken_length(count, further))
+}
+
 // The first bytes of a path's file, as many as the buffer takes; none if it cannot be opened.
 pub fn read_start<'b, R: Files>(files: &R, path: &[u8], buffer: &'b mut [u8]) -> &'b [u8]
     ensures { length result.now ≤ length buffer.old }
 {
     let Some(mut file) = open(files, path) else {
-        return &buffer[..0];
+        return &[];
     };
-    let count = read_full(&mut file, buffer);
-    &buffer[..count]
+    read_first(&mut file, buffer)
 }
 
 // The bytes of a path's file, in the buffer; none if the file is longer than the buffer or cannot be read.
@@ -73,9 +99,7 @@ pub fn read_file<'b, R: Files>(files: &R, path: &[u8], buffer: &'b mut [u8]) -> 
     ensures { length result.now ≤ length buffer.old }
 {
     let Some(mut file) = open(files, path) else {
-        return &buffer[..0];
+        return &[];
     };
-    let count = read_full(&mut file, buffer);
-    let further = read_further(&mut file);
-    &buffer[..taken_length(count, further)]
+    read_whole(&mut file, buffer)
 }

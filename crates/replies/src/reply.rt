@@ -5,6 +5,7 @@ ghost use Rattle.query.specs.working.PreparedSet.{IsPrepared};
 ghost use Rattle.replies.specs.working.Buffer.{QueryReplied, Replied};
 
 use crate::lines::{put_bad_line, put_found_line, put_refused_line};
+use accepted::batch::number_of_answer;
 use paths::pair::Pair;
 use query::limited::answer;
 use routes::route::route;
@@ -38,7 +39,7 @@ fn reply_query(set: LabelSet<'_>, query: Query, writer: &mut Writer)
     let found = answer(set, query.start, query.finish, query.limit);
     match found {
         Ok(best) => put_found(set, query, best, writer),
-        Err(why) => put_refused_line(writer, query, why.number()),
+        Err(_) => put_refused_line(writer, query, number_of_answer(found)),
     }
 }
 
