@@ -243,9 +243,9 @@ pub record LevelSearch (labels marks : List ℕ) (near far levels most_time most
   pub none : HasWithin (SumUp labels marks near far levels done) (pair most_time most_energy) → ⊥
 
 -- no level is searched yet
-pub levels_start : (labels marks : List ℕ) (near far levels most_time most_energy : ℕ) → LevelSearch labels marks near far levels most_time most_energy 0 near far
-levels_start labels marks near far levels most_time most_energy =
-    record { along = along-none labels near far levels; none = λ z. omega (arith, z.among.below) }
+pub levels_start : {labels marks : List ℕ} {near far levels most_time most_energy done : ℕ} → done ≡ 0 → LevelSearch labels marks near far levels most_time most_energy done near far
+levels_start {labels} {marks} {near} {far} {levels} none =
+    rw none (record { along = along-none labels near far levels; none = λ z. omega (arith, z.among.below) })
 
 module _ {labels marks : List ℕ} {near far levels most_time most_energy done n f level : ℕ}
     (now : LevelSearch labels marks near far levels most_time most_energy done n f) (level-is : level ≡ levels - done - 1) where

@@ -2,7 +2,7 @@
 ghost use Rattle.std.specs.Prelude.{◌≤◌, length};
 ghost use Rattle.text.specs.Lines.{LineEnds, line_of};
 ghost use Rattle.text.specs.working.Reading.{QueryRead};
-ghost use Rattle.text.specs.working.Reading.{KindOf, Longer, DigitsRead, NumberRead, SpaceTold};
+ghost use Rattle.text.specs.working.Reading.{KindOf, Fits, Longer, DigitsRead, NumberRead, SpaceTold};
 
 use crate::Query;
 
@@ -50,6 +50,13 @@ pub fn line_end(input: &[u8], start: usize) -> usize
     input.len()
 }
 
+// Whether a number is small enough for a line.
+fn fits(value: u64) -> bool
+    ensures { Fits value result }
+{
+    value <= MOST
+}
+
 // The number one digit longer; a number above MOST stays as it is, so that no run of digits is too long.
 fn longer(value: u64, digit: u64) -> u64
     requires { digit ≤ 9 }
@@ -84,7 +91,7 @@ fn read_number(input: &[u8], start: usize, end: usize) -> Option<(u32, usize)>
     ensures { NumberRead input.now start end result }
 {
     let Digits { value, next } = read_digits(input, start, end);
-    if next == start || value > MOST {
+    if next == start || !fits(value) {
         return None;
     }
     if next > start + 1 && input[start] == b'0' {

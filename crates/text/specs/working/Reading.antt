@@ -25,6 +25,11 @@ pub record NoNewline (input : List ℕ) (start to : ℕ) : Type 0 where
   pub inside : to ≤ length input
   pub none : (i : ℕ) → start ≤ i → i < to → get_or input i 0 ≡ newline_byte → ⊥
 
+-- A value is told to be at most the largest number, or above it
+pub record Fits (value : ℕ) (answer : Bool) : Type 0 where
+  pub holds : answer ≡ true → value ≤ most_number
+  pub fails : answer ≡ false → most_number < value
+
 -- A value takes one digit more, unless it is too large already
 pub record Longer (value digit r : ℕ) : Type 0 where
   pub grows : value ≤ most_number → r ≡ 10 * value + digit

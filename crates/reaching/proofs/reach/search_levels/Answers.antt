@@ -7,7 +7,7 @@ use Rattle.reaching.proofs.Searching.{pairing_more, covering_sum, level_tried, l
 use Rattle.reaching.proofs.reach.search_levels.Goals as goal
 
 pub search-init : goal.search-init
-search-init c = let none : c.args.levels - c.args.levels ≡ 0 = omega arith in (rw none (levels_start _ _ _ _ _ _ _), refl)
+search-init c = (levels_start (omega arith), refl)
 
 pub loop-i-preserved : goal.loop-i-preserved
 loop-i-preserved c =
