@@ -1,10 +1,10 @@
 -- A refusal of the check is told by its number: no two have one.
-use Rattle.std.proofs.Common.{◌≡◌, ℕ, cond, refl, nat_eq, arith}
+use Rattle.std.proofs.Common.{◌≡◌, ◌∙◌, Result, Ok, Err, Unit, ℕ, absurd, ap, cond, refl, sym, nat_eq, arith}
 use Rattle.network.specs.declared.refusal.NetworkRefusal.TheVariants as network
 use Rattle.stored.specs.declared.refusal.LabelRefusal.TheVariants as labels
 use Rattle.accepted.specs.declared.answers.CheckRefusal.{CheckRefusal}
 use Rattle.accepted.specs.declared.answers.CheckRefusal.TheVariants as refusal
-use Rattle.accepted.specs.CheckRefusals.{check_refusal_number}
+use Rattle.accepted.specs.CheckRefusals.{check_refusal_number, check_number_of}
 
 -- the refusal that has a number
 unfoldable pub refusal_of : ℕ → CheckRefusal
@@ -56,3 +56,10 @@ some_number (refusal.Labels labels.Parents) z = omega arith
 some_number (refusal.Labels labels.Road) z = omega arith
 some_number (refusal.Labels labels.Lists) z = omega arith
 some_number refusal.WrongList z = omega arith
+
+-- The check's answer is told by its number
+pub answer_told : (answer answer' : Result (Unit {0}) CheckRefusal) → check_number_of answer ≡ check_number_of answer' → answer ≡ answer'
+answer_told (Ok accepted) (Ok accepted') e = refl
+answer_told (Ok accepted) (Err refused) e = absurd (some_number refused (sym e))
+answer_told (Err refused) (Ok accepted) e = absurd (some_number refused e)
+answer_told (Err refused) (Err refused') e = ap (λ (r : CheckRefusal). Err r) (refusal_rebuilt refused ∙ ap refusal_of e ∙ sym (refusal_rebuilt refused'))

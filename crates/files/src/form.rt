@@ -77,7 +77,9 @@ fn roads_fit(net: Option<&[u8]>, labels: &[u8], depths: &[u32; 1024]) -> bool
     }
 }
 
-// Tests the lists, then the bytes left behind them, then the count of all entries; where they pass, the starts are filled.
+// Tests the lists, then the bytes left behind them, then the count of all entries; where they pass, the starts are filled. Kept out of
+// the tests around it: each list begins where the one before it ends, and that place has to stay in a register.
+#[inline(never)]
 fn test_lists(
     labels: &[u8],
     depths: &[u32; 1024],

@@ -26,7 +26,14 @@ fn crossing_depth(labels: &[u8], depths: &[u32; 1024], l: usize, upper: usize, l
 {
     let own = depths[l];
     let above = depths[upper];
-    if above < own && own <= depths[lower] && is_ancestor(labels, depths, l, lower) {
+    if own <= above {
+        return own;
+    }
+    // Most roads end here; told apart from the last test, which then chooses between two numbers without a branch.
+    if depths[lower] < own {
+        return own;
+    }
+    if is_ancestor(labels, depths, l, lower) {
         above
     } else {
         own
@@ -47,7 +54,9 @@ fn road_mark(net: &[u8], labels: &[u8], depths: &[u32; 1024], l: usize, k: usize
     }
 }
 
-// Marks, by depth, the ancestors of l that have a road to l or below it, and l itself: one pass over the roads.
+// Marks, by depth, the ancestors of l that have a road to l or below it, and l itself: one pass over the roads. Kept out of the search
+// that asks for it, whose many values would take its registers.
+#[inline(never)]
 pub fn mark_hoplinks(
     net: &[u8],
     labels: &[u8],

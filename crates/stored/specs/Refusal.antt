@@ -1,4 +1,4 @@
--- Which number labels are refused by (SCOPE 4.3).
+-- Which number labels are refused by (SCOPE 4.2).
 use Rattle.std.specs.Prelude.{Result, Ok, Err, ℕ}
 use Rattle.stored.specs.declared.refusal.LabelRefusal.{LabelRefusal}
 use Rattle.stored.specs.declared.refusal.LabelRefusal.TheVariants as refusal
