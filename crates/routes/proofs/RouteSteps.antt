@@ -24,7 +24,7 @@ use Rattle.refusals.specs.working.Decides.{Decides}
 use Rattle.paths.specs.declared.pair.Pair.{Pair}
 use Rattle.reaching.specs.working.Reach.{PathWithin, weight_of}
 use Rattle.reaching.proofs.Searching.{not_both}
-use Rattle.routes.specs.working.Steps.{RoadPair, StepFits, StepRoad}
+use Rattle.routes.specs.working.Steps.{RoadPair, FitsInto, StepFits, StepRoad}
 
 -- ---- What is left after a road
 
@@ -56,21 +56,21 @@ pub record RoadSearch (net : List ℕ) (x y whole_time whole_energy k : ℕ) : T
 
 module _ {net : List ℕ} {x y k : ℕ} {takes whole : Pair} (read : RoadPair net k takes) where
   -- a road that does not fit
-  pub step_unfit : (takes.time.0 ≤ whole.time.0 → takes.energy.0 ≤ whole.energy.0 → ⊥) → Decides (StepFits net x y k whole.time.0 whole.energy.0) false
+  pub step_unfit : (FitsInto takes whole → ⊥) → Decides (StepFits net x y k whole.time.0 whole.energy.0) false
   step_unfit unfit =
       record {
         holds = λ q. not_both q;
-        fails = λ q step. unfit (rw read.time_is step.fitting_time) (rw read.energy_is step.fitting_energy);
+        fails = λ q step. unfit (record { fitting_time = rw read.time_is step.fitting_time; fitting_energy = rw read.energy_is step.fitting_energy });
       }
 
   -- of any other road the answer is whether its other end reaches y within the rest
   pub step-decided :
-      {left : Pair} {next : ℕ} {answer : Bool} → takes.time.0 ≤ whole.time.0 → takes.energy.0 ≤ whole.energy.0 → LeftAfter whole takes left → next ≡ other_end net x k →
+      {left : Pair} {next : ℕ} {answer : Bool} → FitsInto takes whole → LeftAfter whole takes left → next ≡ other_end net x k →
       Decides (PathWithin net next y (weight_of left)) answer → Decides (StepFits net x y k whole.time.0 whole.energy.0) answer
-  step-decided {left} {next} fitting_time fitting_energy rest e decides =
+  step-decided {left} {next} fits rest e decides =
       record {
         holds = λ q.
-            record { fitting_time = rw (← read.time_is) fitting_time; fitting_energy = rw (← read.energy_is) fitting_energy; within = rw (← same) (decides.holds q) };
+            record { fitting_time = rw (← read.time_is) fits.fitting_time; fitting_energy = rw (← read.energy_is) fits.fitting_energy; within = rw (← same) (decides.holds q) };
         fails = λ q step. decides.fails q (rw same step.within);
       }
     where

@@ -8,7 +8,7 @@ ghost use Rattle.refusals.specs.working.Decides.{Decides};
 ghost use Rattle.query.specs.working.PreparedSet.{IsPrepared};
 ghost use Rattle.reaching.specs.working.Reach.{weight_of};
 ghost use Rattle.reaching.specs.working.Searched.{Held};
-ghost use Rattle.routes.specs.working.Steps.{RoadPair, StepFits, StepRoad};
+ghost use Rattle.routes.specs.working.Steps.{RoadPair, FitsInto, StepFits, StepRoad};
 ghost use Rattle.routes.specs.working.Written.{RouteFound};
 
 use network::header::roads_of;
@@ -36,6 +36,13 @@ fn road_pair(net: &[u8], k: usize) -> Pair
     }
 }
 
+// Whether a part takes no more than the whole in either figure.
+fn fits_into(part: Pair, whole: Pair) -> bool
+    ensures { Decides (FitsInto part whole) result }
+{
+    part.time <= whole.time && part.energy <= whole.energy
+}
+
 // Whether the step's road fits into the whole and its other end reaches the finish within the rest.
 fn step_fits(set: LabelSet<'_>, step: Step, whole: Pair, hoplinks: &mut Hoplinks) -> bool
     requires prepared { IsPrepared set }
@@ -47,7 +54,7 @@ fn step_fits(set: LabelSet<'_>, step: Step, whole: Pair, hoplinks: &mut Hoplinks
     ensures held_2 { Held set.entry.net.now set.entry.labels.now hoplinks.new }
 {
     let takes = road_pair(set.net, step.road);
-    if takes.time <= whole.time && takes.energy <= whole.energy {
+    if fits_into(takes, whole) {
         let after = whole - takes;
         let ends = Ends {
             from: other_end(set.net, step.here, step.road),
@@ -79,7 +86,8 @@ fn step_road(set: LabelSet<'_>, ends: Ends, whole: Pair, hoplinks: &mut Hoplinks
             road: k,
             finish: ends.to,
         };
-        if step_fits(set, step, whole, hoplinks) {
+        let fits = step_fits(set, step, whole, hoplinks);
+        if fits {
             return k;
         }
         k = next_road(set.net, set.tables, here, k);

@@ -17,7 +17,7 @@ use Rattle.forest.specs.LabelFile.{count_at, time_at, energy_at, energy_end, lis
 use Rattle.stored.specs.ListForm.{most_figure, entry_number}
 use Rattle.stored.specs.working.Scanned.{time_below, energy_from, PassedSome}
 use Rattle.stored.specs.declared.runs.Run.{Run}
-use Rattle.stored.specs.working.Runs.{EnergyFollows, Leading, ShortList, Quick, OneMore}
+use Rattle.stored.specs.working.Runs.{EnergyFollows, Leading, SingleList, ShortList, Quick, OneMore}
 use Rattle.stored.proofs.Lists.{entry-fits, fits-entry, energy-rules, rules-energy}
 use Rattle.stored.proofs.Entries.{time-tested, energy-tested, list_by_entries}
 use Rattle.stored.proofs.Scan.{passed_none, passed-more}
@@ -127,6 +127,10 @@ single_passes {labels} {at} inside is one fits = short_passes lead inside (sym o
 
     lead : Leading labels at 1
     lead = record { few = omega arith; fit = first }
+
+pub single_list :
+    {labels : List ℕ} {at count : ℕ} → at + 2 ≤ length labels → count ≡ count_at labels at → count ≡ 1 → entry_number labels at 0 ≡ 0 → SingleList labels at
+single_list inside is one fits = record { one = sym is ∙ one; fits = (single_passes inside is one fits).fits }
 
 -- ---- A run and one list more
 

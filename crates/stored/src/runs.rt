@@ -5,7 +5,7 @@ ghost use Rattle.network.specs.NetworkFile.{version_of};
 ghost use Rattle.forest.specs.LabelFile.{energy_end};
 ghost use Rattle.stored.specs.ListForm.{most_bytes, most_count, entry_number};
 ghost use Rattle.stored.specs.working.Scanned.{PassedSome};
-ghost use Rattle.stored.specs.working.Runs.{EnergyFollows, Leading, ShortList, Quick, OneMore};
+ghost use Rattle.stored.specs.working.Runs.{EnergyFollows, Leading, SingleList, ShortList, Quick, OneMore};
 
 use crate::stored::{
     MOST_FIGURE, SHORT_BYTES, count_at, energy_at, energy_fits, entries_end, time_at, time_fits,
@@ -79,11 +79,12 @@ fn leading(labels: &[u8], least: Energy, at: usize) -> u32
 }
 
 // The count of a list of one entry, which keeps the rules.
-#[tactic(auto, using(crate::proofs::ShortLists::single_passes))]
+#[tactic(auto, using(crate::proofs::ShortLists::single_list, crate::proofs::ShortLists::single_passes))]
 fn single_count(labels: &[u8], least: Energy, at: usize) -> Option<u32>
     requires at_in_bounds { energy_end labels.now at 0 ≤ length labels.now }
     requires least_value { least.0 ≡ least_entry_energy (version_of labels.now) }
-    ensures { IfSome result (ShortList labels.now at) }
+    ensures single { IfSome result (λ count. SingleList labels.now at) }
+    ensures short { IfSome result (ShortList labels.now at) }
 {
     (count_at(labels, at) == 1 && first_fits(labels, least, at)).then_some(1)
 }

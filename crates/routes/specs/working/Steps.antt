@@ -11,6 +11,11 @@ pub record RoadPair (net : List ℕ) (k : ℕ) (takes : Pair) : Type 0 where
   pub time_is : takes.time.0 ≡ road_time net k
   pub energy_is : takes.energy.0 ≡ road_energy net k
 
+-- A part takes no more than the whole in either figure
+pub record FitsInto (part whole : Pair) : Type 0 where
+  pub fitting_time : part.time.0 ≤ whole.time.0
+  pub fitting_energy : part.energy.0 ≤ whole.energy.0
+
 -- Road k fits into (whole_time, whole_energy), and a path from its other end to y fits into the rest
 pub record StepFits (net : List ℕ) (x y k whole_time whole_energy : ℕ) : Type 0 where
   pub fitting_time : road_time net k ≤ whole_time

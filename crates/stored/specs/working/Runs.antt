@@ -13,6 +13,11 @@ pub record Leading (labels : List ℕ) (at r : ℕ) : Type 0 where
   pub few : r ≤ 2
   pub fit : (j : ℕ) → j < r → entry_number labels at j ≡ 0
 
+-- A list of one entry without fault
+pub record SingleList (labels : List ℕ) (at : ℕ) : Type 0 where
+  pub one : count_at labels at ≡ 1
+  pub fits : list_number labels at ≡ 0
+
 -- A list of at most two entries, as many as its count, without fault
 pub record ShortList (labels : List ℕ) (at count : ℕ) : Type 0 where
   pub is : count ≡ count_at labels at
