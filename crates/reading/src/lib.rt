@@ -60,7 +60,8 @@ fn taken_length(count: usize, further: Option<usize>) -> usize
 // The first bytes of a buffer: what was read into it.
 fn first_bytes(buffer: &[u8], count: usize) -> &[u8]
     requires { count ≤ length buffer.now }
-    ensures { FirstBytes buffer.now count result.now }
+    ensures first { FirstBytes buffer.now count result.now }
+    ensures place { result.ref_ptr ≡ buffer.entry.ref_ptr }
 {
     &buffer[..count]
 }
@@ -69,6 +70,7 @@ fn first_bytes(buffer: &[u8], count: usize) -> &[u8]
 pub fn read_first<'b, F: Read>(file: &mut F, buffer: &'b mut [u8]) -> &'b [u8]
     ensures bytes { Consumes (F.remaining file.old) (F.remaining file.new) result.now }
     ensures few { length result.now ≤ length buffer.old }
+    ensures place { result.ref_ptr ≡ buffer.entry.ref_ptr }
 {
     let count = read_full(file, buffer);
     first_bytes(buffer, count)
@@ -78,6 +80,7 @@ pub fn read_first<'b, F: Read>(file: &mut F, buffer: &'b mut [u8]) -> &'b [u8]
 pub fn read_whole<'b, F: Read>(file: &mut F, buffer: &'b mut [u8]) -> &'b [u8]
     ensures whole { WholeOrNone (F.remaining file.old) (F.remaining file.new) result.now }
     ensures few { length result.now ≤ length buffer.old }
+    ensures place { result.ref_ptr ≡ buffer.entry.ref_ptr }
 {
     let count = read_full(file, buffer);
     let further = read_further(file);
@@ -86,20 +89,22 @@ pub fn read_whole<'b, F: Read>(file: &mut F, buffer: &'b mut [u8]) -> &'b [u8]
 
 // The first bytes of a path's file, as many as the buffer takes; none if it cannot be opened.
 pub fn read_start<'b, R: Files>(files: &R, path: &[u8], buffer: &'b mut [u8]) -> &'b [u8]
-    ensures { length result.now ≤ length buffer.old }
+    ensures few { length result.now ≤ length buffer.old }
+    ensures place { result.ref_ptr ≡ buffer.entry.ref_ptr }
 {
     let Some(mut file) = open(files, path) else {
-        return &[];
+        return first_bytes(buffer, 0);
     };
     read_first(&mut file, buffer)
 }
 
 // The bytes of a path's file, in the buffer; none if the file is longer than the buffer or cannot be read.
 pub fn read_file<'b, R: Files>(files: &R, path: &[u8], buffer: &'b mut [u8]) -> &'b [u8]
-    ensures { length result.now ≤ length buffer.old }
+    ensures few { length result.now ≤ length buffer.old }
+    ensures place { result.ref_ptr ≡ buffer.entry.ref_ptr }
 {
     let Some(mut file) = open(files, path) else {
-        return &[];
+        return first_bytes(buffer, 0);
     };
     read_whole(&mut file, buffer)
 }
