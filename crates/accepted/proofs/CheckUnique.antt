@@ -2,7 +2,7 @@
 use mathlib.Core.Path.{◌≡◌, sym, ◌∙◌}
 use mathlib.Core.List.{List}
 use Prim.Native.Nat.{ℕ}
-use Rattle.std.specs.Prelude.{Result, Unit}
+use Rattle.std.specs.Prelude.{Result}
 use Rattle.accepted.specs.declared.answers.CheckRefusal.{CheckRefusal}
 use Rattle.accepted.specs.CheckRefusals.{check_number_of}
 use Rattle.accepted.proofs.Refusals.{answer_told}

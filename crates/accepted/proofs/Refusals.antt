@@ -1,5 +1,5 @@
 -- A refusal of the check is told by its number: no two have one.
-use Rattle.std.proofs.Common.{◌≡◌, ◌∙◌, Result, Ok, Err, Unit, ℕ, absurd, ap, cond, refl, sym, nat_eq, arith}
+use Rattle.std.proofs.Common.{◌≡◌, ◌∙◌, Result, Ok, Err, ℕ, ap, cond, refl, sym, nat_eq, arith}
 use Rattle.network.specs.declared.refusal.NetworkRefusal.TheVariants as network
 use Rattle.stored.specs.declared.refusal.LabelRefusal.TheVariants as labels
 use Rattle.accepted.specs.declared.answers.CheckRefusal.{CheckRefusal}
