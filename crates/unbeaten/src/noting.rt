@@ -85,7 +85,9 @@ impl Sums for ListSums<'_> {
         Ok(sum.pair)
     }
 
-    // As the first entry's energy rises, fewer entries of the second list fit beside it.
+    // As the first entry's energy rises, fewer entries of the second list fit beside it. Kept out of the search for the next sum, whose
+    // values would take its registers.
+    #[inline(never)]
     fn note(&self, limit: Energy, first: Seconds, leasts: &mut [u32; SECONDS]) {
         let mut j = self.more_energies.len();
         for i in 0..self.times.len() {
