@@ -4,3 +4,4 @@ pub mod BatchUnique
 pub mod RouteUnique
 pub mod ListUnique
 pub mod PartUnique
+pub mod PairOrder
