@@ -4,7 +4,7 @@ use mathlib.Core.List.{List, Memᴰ}
 use Prim.Native.Nat.{ℕ, ◌+◌, ◌-◌, ◌≤◌, ◌<◌}
 use native.Mathlib.Omega.{arith}
 use lib.ListN.{get_or}
-use Rattle.std.specs.Prelude.{Result, Ok, Err}
+use Rattle.std.specs.Prelude.{Option, Some, None, Result, Ok, Err}
 use Rattle.paths.specs.Weights.{energy, pair, spent, Within}
 use Rattle.paths.specs.TradeOff.{Ordered}
 use Rattle.paths.specs.declared.pair.Pair.{Pair}
@@ -15,7 +15,7 @@ use Rattle.lists.specs.Entries.{Weight}
 use Rattle.spans.specs.declared.Span.{Span}
 use Rattle.spans.specs.working.Noting.{no_energy, Sought}
 use Rattle.spans.specs.working.Waiting.{most_time, Waiting, BestBelow}
-use Rattle.spans.specs.working.Below.{FiguresFit, FoundBelow, NoneBelow, BelowIs, NextBelow, ListOf}
+use Rattle.spans.specs.working.Below.{FiguresFit, FoundBelow, BelowIs, NextBelow, NoneBelow, BelowOrWhy, NextOrWhy, ListOf}
 use Rattle.spans.proofs.WaitingLaws.{noted-best, noted-waits}
 
 -- ---- What is noted
@@ -31,13 +31,21 @@ below-noted now most sought inside is-time is-energy =
 -- ---- What is told
 
 -- where a sum was found and where none was
-module _ {Missing : Type 0} {Has : Weight → Type 0} {Says : ℕ → Missing → Type 0} {bound : ℕ} {next : Result Pair Missing} {before after : Span} {leasts : List ℕ}
-    (below : NextBelow Has Says bound next before after leasts) where
-  pub told-found : {p : Pair} → next ≡ Ok p → FoundBelow Has bound (pair p.time.0 p.energy.0) after leasts
-  told-found is = subst (BelowIs Has Says bound before after leasts) is below.told
+module _ {Has : Weight → Type 0} {bound : ℕ} {next : Option Pair} {span : Span} {leasts : List ℕ} (below : NextBelow Has bound next span leasts) where
+  pub told-found : {p : Pair} → next ≡ Some p → FoundBelow Has bound (pair p.time.0 p.energy.0) span leasts
+  told-found is = subst (BelowIs Has bound span leasts) is below.told
 
-  pub told-none : {why : Missing} → next ≡ Err why → NoneBelow Has Says bound why before after
-  told-none is = subst (BelowIs Has Says bound before after leasts) is below.told
+  pub told-none : next ≡ None → (p : Weight) → Has p → bound ≤ spent energy p
+  told-none is = subst (BelowIs Has bound span leasts) is below.told
+
+-- the same where a reason is told
+module _ {Missing : Type 0} {Has : Weight → Type 0} {Says : ℕ → Missing → Type 0} {bound : ℕ} {next : Result Pair Missing} {before after : Span} {leasts : List ℕ}
+    (below : NextOrWhy Has Says bound next before after leasts) where
+  pub why-found : {p : Pair} → next ≡ Ok p → FoundBelow Has bound (pair p.time.0 p.energy.0) after leasts
+  why-found is = subst (BelowOrWhy Has Says bound before after leasts) is below.told
+
+  pub why-none : {why : Missing} → next ≡ Err why → NoneBelow Has Says bound why before after
+  why-none is = subst (BelowOrWhy Has Says bound before after leasts) is below.told
 
 -- ---- The list of the set
 

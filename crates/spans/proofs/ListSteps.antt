@@ -4,8 +4,8 @@ use mathlib.Core.List.{List}
 use Prim.Native.Nat.{ℕ, ◌+◌, ◌-◌, ◌≤◌, ◌<◌}
 use native.Mathlib.Omega.{arith}
 use lib.ListN.{length, set}
-use Rattle.std.specs.Prelude.{Result, Ok, Err}
-use Rattle.std.proofs.Common.{IsOk, rules}
+use Rattle.std.specs.Prelude.{Option, Some, None, Result, Ok, Err}
+use Rattle.std.proofs.Common.{IsOk, IsSome, rules}
 use Rattle.paths.specs.Weights.{energy, pair, spent}
 use Rattle.paths.specs.declared.pair.Pair.{Pair}
 use Rattle.lists.specs.Entries.{Weight}
@@ -14,7 +14,7 @@ use Rattle.lists.proofs.JoinBackwards.{below-some, below_none, filled_end, Count
 use Rattle.spans.specs.declared.Span.{Span}
 use Rattle.spans.specs.working.Noting.{span_seconds}
 use Rattle.spans.specs.working.Waiting.{Waiting, NoSpan}
-use Rattle.spans.specs.working.Below.{FiguresFit, FoundBelow, BelowIs, NextBelow, ListOf}
+use Rattle.spans.specs.working.Below.{FiguresFit, FoundBelow, BelowIs, NextBelow, BelowOrWhy, NextOrWhy, ListOf}
 use Rattle.spans.specs.working.Written.{SomeList, Counted, ListWritten}
 use Rattle.spans.proofs.WaitingLaws.{waiting_start}
 use Rattle.spans.proofs.BelowLaws.{list-ordered, list-small, below-last, nothing-left}
@@ -98,12 +98,20 @@ module _ {Has : Weight → Type 0} {count : ℕ} {out_times out_energies : List 
     fill_bound = below-some now.filling.left some
 
     -- one is always found
-    pub always_found :
-        {Missing : Type 0} {Says : ℕ → Missing → Type 0} {next : Result Pair Missing} {before after : Span} {lower : List ℕ} →
-        NextBelow Has Says bound next before after lower → IsOk next
-    always_found {Missing} {Says} {next} {before} {after} {lower} below = pick next below.told
+    pub always_found : {next : Option Pair} {after : Span} {lower : List ℕ} → NextBelow Has bound next after lower → IsSome next
+    always_found {next} {after} {lower} below = pick next below.told
       where
-        pick : (told : Result Pair Missing) → BelowIs Has Says bound before after lower told → IsOk told
+        pick : (told : Option Pair) → BelowIs Has bound after lower told → IsSome told
+        pick (Some p) found = search rules
+        pick None none = absurd (omega (arith, below_none now.filling.left fill_bound (nothing-left now.right fill_bound none)))
+
+    -- also where a reason could be told
+    pub always_ok :
+        {Missing : Type 0} {Says : ℕ → Missing → Type 0} {next : Result Pair Missing} {before after : Span} {lower : List ℕ} →
+        NextOrWhy Has Says bound next before after lower → IsOk next
+    always_ok {Missing} {Says} {next} {before} {after} {lower} below = pick next below.told
+      where
+        pick : (told : Result Pair Missing) → BelowOrWhy Has Says bound before after lower told → IsOk told
         pick (Ok p) found = search rules
         pick (Err why) none = absurd (omega (arith, below_none now.filling.left fill_bound (nothing-left now.right fill_bound none.none)))
 

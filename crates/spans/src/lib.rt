@@ -3,6 +3,8 @@
 #![tactic(auto)]
 
 pub mod sums;
+#[cfg(test)]
+mod tests;
 
 ghost use Rattle.std.specs.Prelude.{◌≡◌, ◌+◌, ◌-◌, ◌≤◌, ◌<◌, ◌^◌, length};
 ghost use Rattle.spans.specs.working.Noting.{span_seconds, LoweredAt, Cleared, Sought};

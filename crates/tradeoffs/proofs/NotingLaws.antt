@@ -3,6 +3,7 @@ use mathlib.Core.Path.{◌≡◌, refl, sym, ap, ◌∙◌}
 use mathlib.Core.Logic.{inl, inr, ⊎_elim}
 use mathlib.Core.List.{List}
 use Rattle.std.specs.Prelude.{Result, Ok, Err}
+use Rattle.std.specs.Result.{result_ok}
 use Prim.Native.Nat.{ℕ, ◌+◌, ◌≤◌, ◌<◌}
 use native.Mathlib.Omega.{arith}
 use lib.ListN.{length}
@@ -12,7 +13,7 @@ use Rattle.paths.proofs.Weights.{not_later_antisym}
 use Rattle.lists.specs.Entries.{Weight}
 use Rattle.spans.specs.working.Noting.{span_seconds, SumOf, PairWithin, NoneBefore, Lowered}
 use Rattle.spans.specs.declared.Span.{Span}
-use Rattle.spans.specs.working.Below.{BestWithin, BestIs, NextBelow as BelowSays}
+use Rattle.spans.specs.working.Below.{BestWithin, BestIs, BestOrWhy, NextOrWhy}
 use Rattle.spans.proofs.NotingLaws.{lowered_none, lowered-same, SetParts, lowered_then}
 use Rattle.spans.proofs.TableLaws.{EnergiesRise, FittingSums}
 use Rattle.forest.specs.LabelFile.{count_at, energy_at, list_end}
@@ -176,16 +177,21 @@ module _ {Has : Weight → Type 0} {C : ℕ} where
   answer_none refused (not_connected e none) q h w = none q h
 
   -- so an answer has what is best within the limit, or says why nothing is
-  pub answer_best : (r : Result Pair NoAnswer) → AnswerFrom Has C r → BestIs Has (NoneFrom Has) C r
+  pub answer_or_why : (r : Result Pair NoAnswer) → AnswerFrom Has C r → BestOrWhy Has (NoneFrom Has) C r
+  answer_or_why (Ok best) answer = answer_found refl answer
+  answer_or_why (Err why) answer = record { none = answer_none (not_zero why) answer; says = answer }
+
+  -- and its pair, if it has one, is what is best within the limit
+  pub answer_best : (r : Result Pair NoAnswer) → AnswerFrom Has C r → BestIs Has C (result_ok r)
   answer_best (Ok best) answer = answer_found refl answer
-  answer_best (Err why) answer = record { none = answer_none (not_zero why) answer; says = answer }
+  answer_best (Err why) answer = answer_none (not_zero why) answer
 
 -- ---- The best below a bound
 
 -- what is found below a bound is what the set answers one below it, and the span waits for what is below that
 pub next_answers :
     {Has : Weight → Type 0} {bound : ℕ} (next : Result Pair NoAnswer) {before after : Span} {leasts : List ℕ} →
-    BelowSays Has (NoneFrom Has) bound next before after leasts → NextBelow Has bound next after leasts
+    NextOrWhy Has (NoneFrom Has) bound next before after leasts → NextBelow Has bound next after leasts
 next_answers (Ok p) below =
     record {
       answers =

@@ -7,7 +7,7 @@ ghost use Rattle.spans.specs.working.Written.{SomeList, Counted, ListWritten};
 
 use crate::noting::RowSums;
 use query::Between;
-use spans::sums::{count_below, fill_below};
+use spans::sums::{count_reasoned, fill_reasoned};
 use stored::place::Place;
 use stored::stored::load;
 
@@ -33,7 +33,7 @@ pub fn list_count(labels: &[u8], lists: Between) -> u32
                 far,
                 levels,
             };
-            count_below(&sums, &mut leasts)
+            count_reasoned(&sums, &mut leasts)
         }
     }
 }
@@ -62,7 +62,7 @@ pub fn list_fill(labels: &[u8], lists: Between, count: u32, times: &mut [u32], e
                 far,
                 levels,
             };
-            fill_below(&sums, count, times, energies, &mut leasts);
+            fill_reasoned(&sums, count, times, energies, &mut leasts);
         }
     }
 }

@@ -14,7 +14,7 @@ use query::across::sum_at;
 use query::limited::from_lists;
 use query::list_pair::ListPair;
 use query::places::fitting_from;
-use spans::sums::Sums;
+use spans::sums::ReasonedSums;
 use spans::{SECONDS, lower, seconds_behind};
 use stored::list::StoredList;
 use stored::place::Place;
@@ -84,7 +84,7 @@ pub struct RowSums<'a> {
     pub levels: u32,
 }
 
-impl Sums for RowSums<'_> {
+impl ReasonedSums for RowSums<'_> {
     type Missing = NoAnswer;
 
     ghost has = { λ s. SumIn s.labels.now (Row s.labels.now s.near s.far s.levels) };
@@ -93,7 +93,7 @@ impl Sums for RowSums<'_> {
 
     ghost says = { λ s. NoneFrom (SumIn s.labels.now (Row s.labels.now s.near s.far s.levels)) };
 
-    #[tactic(auto, using(crate::proofs::NotingLaws::answer_best))]
+    #[tactic(auto, using(crate::proofs::NotingLaws::answer_or_why))]
     fn best(&self, limit: Energy) -> Result<Pair, NoAnswer> {
         from_lists(self.labels, self.near, self.far, self.levels, limit)
     }

@@ -8,7 +8,7 @@ use crate::noting::ListSums;
 use joins::JoinRefusal;
 use joins::form::check_form;
 use spans::SECONDS;
-use spans::sums::{count_below, fill_below};
+use spans::sums::{count_reasoned, fill_reasoned};
 
 // Join: fills the first places of the two lent slices with the join of two lists, or refuses and leaves them as they are.
 pub fn join(
@@ -36,11 +36,11 @@ pub fn join(
         more_times,
         more_energies,
     };
-    let count = count_below(&sums, &mut leasts);
+    let count = count_reasoned(&sums, &mut leasts);
     let room = out_times.len().min(out_energies.len());
     if room < count as usize {
         return Err(JoinRefusal::NoRoom);
     }
-    fill_below(&sums, count, out_times, out_energies, &mut leasts);
+    fill_reasoned(&sums, count, out_times, out_energies, &mut leasts);
     Ok(count)
 }

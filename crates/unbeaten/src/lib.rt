@@ -3,3 +3,5 @@
 
 pub mod join;
 pub mod noting;
+#[cfg(test)]
+mod tests;

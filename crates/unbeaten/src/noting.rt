@@ -10,7 +10,7 @@ use lists::sums::{best_sum, fitting, sum_at};
 use paths::energy::Energy;
 use paths::pair::Pair;
 use paths::seconds::Seconds;
-use spans::sums::Sums;
+use spans::sums::ReasonedSums;
 use spans::{SECONDS, lower, seconds_behind};
 
 // Lists of fewer entries together have too few sums for a span to pay; those of more are all treated alike.
@@ -54,7 +54,7 @@ pub struct ListSums<'a> {
     pub more_energies: &'a [u32],
 }
 
-impl Sums for ListSums<'_> {
+impl ReasonedSums for ListSums<'_> {
     // Nothing is told: nobody asks why two lists have no sum within a limit.
     type Missing = ();
 

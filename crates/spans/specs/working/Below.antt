@@ -1,5 +1,5 @@
 -- The best sum within a limit, the best below a bound, and the list that all of these make up.
-use Rattle.std.specs.Prelude.{◌≡◌, List, ℕ, ◌-◌, Result, Ok, Err, ◌≤◌, length}
+use Rattle.std.specs.Prelude.{◌≡◌, List, ℕ, ◌-◌, Option, Some, None, Result, Ok, Err, ◌≤◌, length}
 use mathlib.Core.List.{Memᴰ}
 use Rattle.paths.specs.Weights.{energy, pair, time, spent, Within, NotLater, Beats, Rising}
 use Rattle.paths.specs.declared.pair.Pair.{Pair}
@@ -16,15 +16,20 @@ pub record BestWithin (Has : Weight → Type 0) (limit : ℕ) (p : Weight) : Typ
   pub within : Within energy limit p
   pub least : (q : Weight) → Has q → Within energy limit q → NotLater energy p q
 
+-- What is found within the limit
+abbrev pub BestIs : (Weight → Type 0) → ℕ → Option Pair → Type 0
+BestIs Has limit (Some p) = BestWithin Has limit (pair p.time.0 p.energy.0)
+BestIs Has limit None = (p : Weight) → Has p → Within energy limit p → ⊥
+
 -- Nothing of the set is within the limit, and the reason says why
 pub record NoneWithin {Missing : Type 0} (Has : Weight → Type 0) (Says : ℕ → Missing → Type 0) (limit : ℕ) (why : Missing) : Type 0 where
   pub none : (p : Weight) → Has p → Within energy limit p → ⊥
   pub says : Says limit why
 
 -- What is found within the limit, or why nothing is
-abbrev pub BestIs : {Missing : Type 0} → (Weight → Type 0) → (ℕ → Missing → Type 0) → ℕ → Result Pair Missing → Type 0
-BestIs Has Says limit (Ok p) = BestWithin Has limit (pair p.time.0 p.energy.0)
-BestIs Has Says limit (Err why) = NoneWithin Has Says limit why
+abbrev pub BestOrWhy : {Missing : Type 0} → (Weight → Type 0) → (ℕ → Missing → Type 0) → ℕ → Result Pair Missing → Type 0
+BestOrWhy Has Says limit (Ok p) = BestWithin Has limit (pair p.time.0 p.energy.0)
+BestOrWhy Has Says limit (Err why) = NoneWithin Has Says limit why
 
 -- Each of its figures is less than the first bound
 pub record FiguresFit (p : Weight) : Type 0 where
@@ -38,6 +43,15 @@ pub record FoundBelow (Has : Weight → Type 0) (bound : ℕ) (p : Weight) (span
   pub best : BestBelow Has bound p
   pub waits : Waiting Has (spent energy p) span leasts
 
+-- What is found below the bound, and the span behind it
+abbrev pub BelowIs : (Weight → Type 0) → ℕ → Span → List ℕ → Option Pair → Type 0
+BelowIs Has bound span leasts (Some p) = FoundBelow Has bound (pair p.time.0 p.energy.0) span leasts
+BelowIs Has bound span leasts None = (p : Weight) → Has p → bound ≤ spent energy p
+
+pub record NextBelow (Has : Weight → Type 0) (bound : ℕ) (next : Option Pair) (span : Span) (leasts : List ℕ) : Type 0 where
+  pub long : length leasts ≡ span_seconds
+  pub told : BelowIs Has bound span leasts next
+
 -- Nothing of the set is below the bound, the reason says why, and the span stays as it was
 pub record NoneBelow {Missing : Type 0} (Has : Weight → Type 0) (Says : ℕ → Missing → Type 0) (bound : ℕ) (why : Missing) (before after : Span) : Type 0 where
   pub none : (p : Weight) → Has p → bound ≤ spent energy p
@@ -45,14 +59,14 @@ pub record NoneBelow {Missing : Type 0} (Has : Weight → Type 0) (Says : ℕ �
   pub kept : after ≡ before
 
 -- What is found below the bound and the span behind it, or why nothing is
-abbrev pub BelowIs : {Missing : Type 0} → (Weight → Type 0) → (ℕ → Missing → Type 0) → ℕ → Span → Span → List ℕ → Result Pair Missing → Type 0
-BelowIs Has Says bound before after leasts (Ok p) = FoundBelow Has bound (pair p.time.0 p.energy.0) after leasts
-BelowIs Has Says bound before after leasts (Err why) = NoneBelow Has Says bound why before after
+abbrev pub BelowOrWhy : {Missing : Type 0} → (Weight → Type 0) → (ℕ → Missing → Type 0) → ℕ → Span → Span → List ℕ → Result Pair Missing → Type 0
+BelowOrWhy Has Says bound before after leasts (Ok p) = FoundBelow Has bound (pair p.time.0 p.energy.0) after leasts
+BelowOrWhy Has Says bound before after leasts (Err why) = NoneBelow Has Says bound why before after
 
-pub record NextBelow {Missing : Type 0} (Has : Weight → Type 0) (Says : ℕ → Missing → Type 0) (bound : ℕ) (next : Result Pair Missing) (before after : Span)
+pub record NextOrWhy {Missing : Type 0} (Has : Weight → Type 0) (Says : ℕ → Missing → Type 0) (bound : ℕ) (next : Result Pair Missing) (before after : Span)
     (leasts : List ℕ) : Type 0 where
   pub long : length leasts ≡ span_seconds
-  pub told : BelowIs Has Says bound before after leasts next
+  pub told : BelowOrWhy Has Says bound before after leasts next
 
 -- ---- The list of a set
 

@@ -7,11 +7,11 @@ pub count-requires : goal.count-requires
 count-requires c = let one = some_more (told_one _ c.in-List.is) c.requires in
     count-stands one.right.fits
 
-pub count_below-requires-clause-is_formed : goal.count_below-requires-clause-is_formed
-count_below-requires-clause-is_formed c = (some_more (told_two _ c.in-Lists.is) c.requires).right.fits
+pub count_reasoned-requires-clause-is_formed : goal.count_reasoned-requires-clause-is_formed
+count_reasoned-requires-clause-is_formed c = (some_more (told_two _ c.in-Lists.is) c.requires).right.fits
 
-pub count_below-requires-clause-some_list : goal.count_below-requires-clause-some_list
-count_below-requires-clause-some_list c = some_more (λ l told. (told_two _ c.in-Lists.is l told).is) c.requires
+pub count_reasoned-requires-clause-some_list : goal.count_reasoned-requires-clause-some_list
+count_reasoned-requires-clause-some_list c = some_more (λ l told. (told_two _ c.in-Lists.is l told).is) c.requires
 
 pub returns-in-Nothing : goal.returns-in-Nothing
 returns-in-Nothing c = counted-more (none_told _ c.in-Nothing.is) none-counted
@@ -23,4 +23,4 @@ returns-in-List c = counted-more (one_told _ c.in-List.is)
 pub returns-in-Lists : goal.returns-in-Lists
 returns-in-Lists c =
     let fits = (some_more (told_two _ c.in-Lists.is) c.requires).right.fits in
-    counted-more (λ l is. two_told _ c.in-Lists.is l (joined_list fits l is)) c.count_below.ensures.value
+    counted-more (λ l is. two_told _ c.in-Lists.is l (joined_list fits l is)) c.count_reasoned.ensures.value

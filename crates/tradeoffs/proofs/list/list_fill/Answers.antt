@@ -7,11 +7,11 @@ pub load-requires : goal.load-requires
 load-requires c = let one = counted-more (told_one _ c.in-List.is) c.requires.counted in
     record { at_in_bounds = one.right.fits.inside; at_in_bounds_2 = omega (arith, stored-room one, c.requires.count_in_bounds.0); at_in_bounds_3 = omega (arith, stored-room one, c.requires.count_in_bounds.1) }
 
-pub fill_below-requires-clause-is_formed : goal.fill_below-requires-clause-is_formed
-fill_below-requires-clause-is_formed c = (counted-more (told_two _ c.in-Lists.is) c.requires.counted).right.fits
+pub fill_reasoned-requires-clause-is_formed : goal.fill_reasoned-requires-clause-is_formed
+fill_reasoned-requires-clause-is_formed c = (counted-more (told_two _ c.in-Lists.is) c.requires.counted).right.fits
 
-pub fill_below-requires-clause-counted : goal.fill_below-requires-clause-counted
-fill_below-requires-clause-counted c = counted-more (λ l told. (told_two _ c.in-Lists.is l told).is) c.requires.counted
+pub fill_reasoned-requires-clause-counted : goal.fill_reasoned-requires-clause-counted
+fill_reasoned-requires-clause-counted c = counted-more (λ l told. (told_two _ c.in-Lists.is l told).is) c.requires.counted
 
 pub returns-in-Nothing : goal.returns-in-Nothing
 returns-in-Nothing c = written-more (none_told _ c.in-Nothing.is) (none_written (counted-more (told_none _ c.in-Nothing.is) c.requires.counted))
@@ -22,4 +22,4 @@ returns-in-List c = written-more (one_told _ c.in-List.is) (stored-written (coun
 pub returns-in-Lists : goal.returns-in-Lists
 returns-in-Lists c =
     let fits = (counted-more (told_two _ c.in-Lists.is) c.requires.counted).right.fits in
-    written-more (λ l is. two_told _ c.in-Lists.is l (joined_list fits l is)) c.fill_below.ensures
+    written-more (λ l is. two_told _ c.in-Lists.is l (joined_list fits l is)) c.fill_reasoned.ensures

@@ -1,7 +1,7 @@
 -- Each turn notes the sums of one level more.
 use Rattle.query.proofs.Rows.{along-near, along_far, near_next, far_next}
 use Rattle.tradeoffs.proofs.NotingLaws.{row_none, row_later, row_more, row_all}
-use Rattle.tradeoffs.proofs.noting.RowSumsSums.note.Goals as goal
+use Rattle.tradeoffs.proofs.noting.RowSumsReasonedSums.note.Goals as goal
 
 pub loop-init : goal.loop-init
 loop-init c = row_none _ _ _ _ _ _ c.requires.leasts_len

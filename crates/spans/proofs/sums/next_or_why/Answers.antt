@@ -1,7 +1,7 @@
 -- What is noted next below the bound is the best below it, and where nothing is noted one walk finds it.
 use Rattle.std.proofs.Common.{refl, arith}
 use Rattle.spans.proofs.BelowLaws.{below-noted}
-use Rattle.spans.proofs.sums.next_below.Goals as goal
+use Rattle.spans.proofs.sums.next_or_why.Goals as goal
 
 pub returns-then-second-span : goal.returns-then-second-span
 returns-then-second-span g c =
