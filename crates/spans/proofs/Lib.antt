@@ -4,3 +4,4 @@ pub mod TableLaws
 pub mod WaitingLaws
 pub mod BelowLaws
 pub mod ListSteps
+pub mod BelowUnique

@@ -1,6 +1,6 @@
 // The sums of two or more lists, gone through from the fast end: the best sum below a bound, then the best below that one's energy, and
 // so on. Where they stand close, each 2,048 seconds are noted at once.
-ghost use Rattle.std.specs.Prelude.{◌≡◌, ℕ, ◌-◌, ◌≤◌, ◌<◌, length, ⊤};
+ghost use Rattle.std.specs.Prelude.{◌≡◌, ℕ, ◌-◌, ◌≤◌, ◌<◌, length, ⊤, IsErr, IsNone};
 ghost use Rattle.lists.specs.Entries.{Weight};
 ghost use Rattle.spans.specs.working.Noting.{span_seconds, PairWithin, NoneBefore, Lowered};
 ghost use Rattle.spans.specs.working.Waiting.{most_time, Waiting};
@@ -156,7 +156,7 @@ fn span_from<S: ReasonedSums>(
 }
 
 // The best sum below a bound: the next one noted, or one walk finds it, and the seconds from there on are noted if it is close behind
-// what was noted last. Where there is none, the walk says why, and the span stays as it was.
+// what was noted last. Where there is none, the walk says why, and what was lent stays as it was.
 pub fn next_or_why<S: ReasonedSums>(
     sums: &S,
     bound: Energy,
@@ -166,7 +166,8 @@ pub fn next_or_why<S: ReasonedSums>(
     requires is_formed { S.formed sums.now }
     requires bound_nonzero { 0 < bound.0 }
     requires waiting { Waiting (S.has sums.now) bound.0 span.old leasts.old }
-    ensures { NextOrWhy (S.has sums.now) (S.says sums.now) bound.0 result span.old span.new leasts.new }
+    ensures told { NextOrWhy (S.has sums.now) (S.says sums.now) bound.0 result span.old span.new leasts.new }
+    ensures noted_stay { IsErr result → leasts.new ≡ leasts.old }
 {
     let second = first_below(leasts, span.passed, span.noted, bound);
     if second < span.noted {
@@ -227,8 +228,8 @@ pub fn fill_reasoned<S: ReasonedSums>(
     }
 }
 
-// The three again, for sums that give no reason and callers that want none. First the best sum below a bound, if there is one; that
-// the span then stays as it was, only `next_or_why` says.
+// The three again, for sums that give no reason and callers that want none. First the best sum below a bound, if there is one; if not,
+// what was lent stays as it was.
 pub fn next_below<S: Sums>(
     sums: &S,
     bound: Energy,
@@ -238,7 +239,8 @@ pub fn next_below<S: Sums>(
     requires is_formed { S.formed sums.now }
     requires bound_nonzero { 0 < bound.0 }
     requires waiting { Waiting (S.has sums.now) bound.0 span.old leasts.old }
-    ensures { NextBelow (S.has sums.now) bound.0 result span.new leasts.new }
+    ensures told { NextBelow (S.has sums.now) bound.0 result span.new leasts.new }
+    ensures lent_stay { IsNone result → (span.new ≡ span.old) × (leasts.new ≡ leasts.old) }
 {
     next_or_why(&Unasked(sums), bound, span, leasts).ok()
 }

@@ -53,7 +53,7 @@ fn next_below_of_one_sum(rt: HostRuntime) {
     let mut span = no_span();
     let over = next_below(&OneSum(sum), Energy(7), &mut span, &mut leasts);
     assert!(rt; over.is_none(), "its own energy is not below the bound");
-    let mut span = no_span();
+    // What was lent stands as it did, so the search goes on with it.
     let found = next_below(&OneSum(sum), Energy(8), &mut span, &mut leasts);
     assert!(rt; found == Some(sum), "it is below the next bound");
 }

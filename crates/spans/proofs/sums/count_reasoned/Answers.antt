@@ -7,10 +7,10 @@ pub loop-bound-init : goal.loop-bound-init
 loop-bound-init g c = count-start {Has = g.S.ReasonedSums.has c.args.sums.now} (λ p m. g.met.S.ReasonedSums.small _ p c.requires.is_formed m) c.requires.some_list c.no_span-span.ensures c.requires.leasts_len
 
 pub returns-in_default-clause-value : goal.returns-in_default-clause-value
-returns-in_default-clause-value g c = count_none c.loop-bound.invariant c.loop-bound-test.true (why-none c.next_or_why.ensures c.in_default.is).none
+returns-in_default-clause-value g c = count_none c.loop-bound.invariant c.loop-bound-test.true (why-none c.next_or_why.ensures.told c.in_default.is).none
 
 pub loop-bound-preserved : goal.loop-bound-preserved
-loop-bound-preserved g c = count-more c.loop-bound.invariant c.loop-bound-test.true (why-found c.next_or_why.ensures c.in-Ok.is)
+loop-bound-preserved g c = count-more c.loop-bound.invariant c.loop-bound-test.true (why-found c.next_or_why.ensures.told c.in-Ok.is)
 
 pub returns-clause-value : goal.returns-clause-value
 returns-clause-value g c = counted_end c.loop-bound.invariant c.loop-bound-test.false

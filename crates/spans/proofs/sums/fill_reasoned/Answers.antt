@@ -10,10 +10,10 @@ loop-place-init g c =
     c.requires.leasts_len
 
 pub unwrap-sum-requires : goal.unwrap-sum-requires
-unwrap-sum-requires g c = always_ok c.loop-place.invariant c.loop-place-test.true c.next_or_why.ensures
+unwrap-sum-requires g c = always_ok c.loop-place.invariant c.loop-place-test.true c.next_or_why.ensures.told
 
 pub loop-place-preserved : goal.loop-place-preserved
-loop-place-preserved g c = fill_more c.loop-place.invariant c.loop-place-test.true (why-found c.next_or_why.ensures c.unwrap-sum.ensures)
+loop-place-preserved g c = fill_more c.loop-place.invariant c.loop-place-test.true (why-found c.next_or_why.ensures.told c.unwrap-sum.ensures)
 
 pub returns : goal.returns
 returns g c = fill_end c.loop-place.invariant c.loop-place-test.false

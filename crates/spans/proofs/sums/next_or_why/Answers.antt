@@ -3,8 +3,8 @@ use Rattle.std.proofs.Common.{refl, arith}
 use Rattle.spans.proofs.BelowLaws.{below-noted}
 use Rattle.spans.proofs.sums.next_or_why.Goals as goal
 
-pub returns-then-second-span : goal.returns-then-second-span
-returns-then-second-span g c =
+pub returns-then-second-span-clause-told : goal.returns-then-second-span-clause-told
+returns-then-second-span-clause-told g c =
     record {
       long = c.requires.waiting.long;
       told = below-noted c.requires.waiting (omega arith) c.first_below-second.ensures c.if-second-span.true c.time_behind.ensures refl;
